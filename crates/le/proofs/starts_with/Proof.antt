@@ -1,13 +1,11 @@
 use Prim.Native.Nat.{_≤_, _-_}
-use mathlib.Core.Path.{_≡_, _∙_, sym, refl}
 use native.Mathlib.Omega.{arith}
+use mathlib.Core.Path.{_≡_, _∙_, sym, refl}
 use lib.ListN.{length, drop}
 use Rattle.le.specs.Le.{startsWith}
 use Rattle.le.proofs.Front.{short, passed, same, differs}
 use Rattle.le.proofs.starts_with.Statement.{statement}
 use Rattle.le.proofs.starts_with.Tie as tie
-use Rattle.le.proofs.starts_with.Reads as reads
-use Rattle.le.proofs.starts_with.Lts as lts
 
 abbrev Inv-loop : tie.InvT-loop
 Inv-loop s m i₀ i = (i ≤ length m) × (length m ≤ length s) × (startsWith s m ≡ startsWith (drop i s) (drop i m))
@@ -15,43 +13,34 @@ Inv-loop s m i₀ i = (i ≤ length m) × (length m ≤ length s) × (startsWith
 abbrev μ-loop : tie.MeasureT-loop
 μ-loop s m i₀ i = length m - i
 
--- src/lib.rt:59:9
 returns : tie.Need-returns Inv-loop μ-loop
 returns c = sym (short (c .before .args .s .now) (c .before .args .m .now) (c .if1 .taken))
 
--- src/lib.rt:62:5
 loop-holds : tie.Need-loop-holds Inv-loop μ-loop
 loop-holds c = (omega arith, omega arith, refl)
 
--- src/lib.rt:63:12
 shared-slice-read-if2 : tie.Need-shared-slice-read-if2 Inv-loop μ-loop
 shared-slice-read-if2 c = omega arith
 
--- src/lib.rt:63:20
 shared-slice-read-if2-2 : tie.Need-shared-slice-read-if2-2 Inv-loop μ-loop
 shared-slice-read-if2-2 c = omega arith
 
--- src/lib.rt:64:13
 returns-2 : tie.Need-returns-2 Inv-loop μ-loop
 returns-2 c =
     let l = c .before .before .before .before in
     sym (l .loop .inv .2 ∙ differs _ _ (l .loop .i) (omega arith) (omega arith) (c .if2 .taken))
 
--- src/lib.rt:66:9
 add-i : tie.Need-add-i Inv-loop μ-loop
 add-i c = omega arith
 
--- src/lib.rt:62:5
 loop-less : tie.Need-loop-less Inv-loop μ-loop
 loop-less c = omega arith
 
--- src/lib.rt:62:5
 loop-again : tie.Need-loop-again Inv-loop μ-loop
 loop-again c =
     let l = c .before .before .before .before in
     (omega arith, omega arith, l .loop .inv .2 ∙ same _ _ (l .loop .i) (omega arith) (omega arith) (c .if2 .left))
 
--- src/lib.rt:55:1
 returns-3 : tie.Need-returns-3 Inv-loop μ-loop
 returns-3 c = sym (c .before .loop .inv .2 ∙ passed _ _ (c .before .loop .i) (omega arith))
 

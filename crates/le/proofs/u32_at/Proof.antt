@@ -1,50 +1,36 @@
-use borrow.Author.Needs.{needs}
 use mathlib.Core.Path.{sym}
+use borrow.Author.Needs.{needs}
 use Rattle.le.proofs.Past.{u32-past, u32-onward}
 use Rattle.le.proofs.u32_at.Statement.{statement}
 use Rattle.le.proofs.u32_at.Tie as tie
-use Rattle.le.proofs.u32_at.Reads as reads
-use Rattle.le.proofs.u32_at.Lts as lts
-use Rattle.le.proofs.join32.Reads as join32-reads
-use Rattle.le.proofs.u8_at.Reads as u8-at-reads
 
--- src/lib.rt:42:9
 returns : tie.Need-returns
 returns c = sym (u32-past (c .before .before .args .s .now) _ (c .if1 .taken))
 
--- src/lib.rt:44:13
 sub-t : tie.Need-sub-t
 sub-t c = search needs
 
--- src/lib.rt:44:13
 part-t-start : tie.Need-part-t-start
 part-t-start c = search needs
 
--- src/lib.rt:44:13
 part-t-end : tie.Need-part-t-end
 part-t-end c = search needs
 
--- src/lib.rt:45:12
 u8-at-requires : tie.Need-u8-at-requires
 u8-at-requires c κs = search needs
 
--- src/lib.rt:45:25
 u8-at-requires-2 : tie.Need-u8-at-requires-2
 u8-at-requires-2 c κs = search needs
 
--- src/lib.rt:45:38
 u8-at-requires-3 : tie.Need-u8-at-requires-3
 u8-at-requires-3 c κs = search needs
 
--- src/lib.rt:45:51
 u8-at-requires-4 : tie.Need-u8-at-requires-4
 u8-at-requires-4 c κs = search needs
 
--- src/lib.rt:45:5
 join32-requires : tie.Need-join32-requires
 join32-requires c κs = search needs
 
--- src/lib.rt:38:1
 returns-2 : tie.Need-returns-2
 returns-2 c =
     let entry = c .before .before .before .before .before .before .before .before .args in

@@ -1,5 +1,5 @@
-use borrow.Author.Needs.{needs}
 use mathlib.Core.Path.{sym}
+use borrow.Author.Needs.{needs}
 use Rattle.le.proofs.Past.{u8-past}
 use Rattle.le.proofs.u8_at.Statement.{statement}
 use Rattle.le.proofs.u8_at.Tie as tie

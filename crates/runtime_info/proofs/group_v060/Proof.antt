@@ -1,37 +1,24 @@
 use mathlib.Core.Bool.{true, false, _&&_}
 use mathlib.Core.Path.{_≡_}
 use borrow.Author.Tests.{not-true, not-false}
+use borrow.Author.Needs.{needs}
 use Rattle.le.specs.Le.{u8At}
 use Rattle.runtime_info.specs.Runtime.{reaches, isVoltage, group060Of}
-use borrow.Author.Needs.{needs}
 use Rattle.runtime_info.proofs.group_v060.Statement.{statement}
 use Rattle.runtime_info.proofs.group_v060.Tie as tie
-use Rattle.runtime_info.proofs.group_v060.Reads as reads
-use Rattle.runtime_info.proofs.group_v060.Lts as lts
-use Rattle.le.proofs.both.Reads as both-reads
-use Rattle.le.proofs.flag_at.Reads as flag-at-reads
-use Rattle.le.proofs.u16_at.Reads as u16-at-reads
-use Rattle.le.proofs.u8_at.Reads as u8-at-reads
-use Rattle.runtime_info.proofs.known_fire_vreg.Reads as known-fire-vreg-reads
-use Rattle.runtime_info.proofs.reaches_end.Reads as reaches-end-reads
 
--- src/lib.rt:147:9
 u8-at-requires : tie.Need-u8-at-requires
 u8-at-requires c κs = search needs
 
--- src/lib.rt:148:18
 reaches-end-requires : tie.Need-reaches-end-requires
 reaches-end-requires c κs = search needs
 
--- src/lib.rt:148:41
 known-fire-vreg-requires : tie.Need-known-fire-vreg-requires
 known-fire-vreg-requires c κs = search needs
 
--- src/lib.rt:148:9
 both-requires : tie.Need-both-requires
 both-requires c κs = search needs
 
--- src/lib.rt:149:9
 returns : tie.Need-returns
 unfolding group060Of
 returns c =
@@ -40,31 +27,24 @@ returns c =
     let e : (reaches s 34 && isVoltage (u8At s 27)) ≡ false = cc in
     rw e
 
--- src/lib.rt:152:28
 flag-at-requires : tie.Need-flag-at-requires
 flag-at-requires c κs = search needs
 
--- src/lib.rt:153:29
 flag-at-requires-2 : tie.Need-flag-at-requires-2
 flag-at-requires-2 c κs = search needs
 
--- src/lib.rt:154:22
 flag-at-requires-3 : tie.Need-flag-at-requires-3
 flag-at-requires-3 c κs = search needs
 
--- src/lib.rt:156:23
 u16-at-requires : tie.Need-u16-at-requires
 u16-at-requires c κs = search needs
 
--- src/lib.rt:157:24
 u16-at-requires-2 : tie.Need-u16-at-requires-2
 u16-at-requires-2 c κs = search needs
 
--- src/lib.rt:158:21
 u16-at-requires-3 : tie.Need-u16-at-requires-3
 u16-at-requires-3 c κs = search needs
 
--- src/lib.rt:144:1
 returns-2 : tie.Need-returns-2
 unfolding group060Of
 returns-2 c =

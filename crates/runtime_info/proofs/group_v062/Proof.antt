@@ -1,48 +1,33 @@
 use mathlib.Core.Bool.{true, false, _&&_}
 use mathlib.Core.Path.{_≡_}
 use borrow.Author.Tests.{not-true, not-false}
+use borrow.Author.Needs.{needs}
 use Rattle.le.specs.Le.{u8At}
 use Rattle.runtime_info.specs.Runtime.{reaches, isServeMode, isBitMode, group062Of}
-use borrow.Author.Needs.{needs}
 use Rattle.runtime_info.proofs.group_v062.Statement.{statement}
 use Rattle.runtime_info.proofs.group_v062.Tie as tie
-use Rattle.runtime_info.proofs.group_v062.Reads as reads
-use Rattle.runtime_info.proofs.group_v062.Lts as lts
-use Rattle.le.proofs.both.Reads as both-reads
-use Rattle.le.proofs.u8_at.Reads as u8-at-reads
-use Rattle.runtime_info.proofs.known_bit_mode.Reads as known-bit-mode-reads
-use Rattle.runtime_info.proofs.known_fire_serve_mode.Reads as known-fire-serve-mode-reads
-use Rattle.runtime_info.proofs.reaches_end.Reads as reaches-end-reads
 
--- src/lib.rt:165:9
 u8-at-requires : tie.Need-u8-at-requires
 u8-at-requires c κs = search needs
 
--- src/lib.rt:166:9
 u8-at-requires-2 : tie.Need-u8-at-requires-2
 u8-at-requires-2 c κs = search needs
 
--- src/lib.rt:167:26
 known-fire-serve-mode-requires : tie.Need-known-fire-serve-mode-requires
 known-fire-serve-mode-requires c κs = search needs
 
--- src/lib.rt:167:56
 known-bit-mode-requires : tie.Need-known-bit-mode-requires
 known-bit-mode-requires c κs = search needs
 
--- src/lib.rt:167:9
 both-requires : tie.Need-both-requires
 both-requires c κs = search needs
 
--- src/lib.rt:168:18
 reaches-end-requires : tie.Need-reaches-end-requires
 reaches-end-requires c κs = search needs
 
--- src/lib.rt:168:9
 both-requires-2 : tie.Need-both-requires-2
 both-requires-2 c κs = search needs
 
--- src/lib.rt:169:9
 returns : tie.Need-returns
 unfolding group062Of
 returns c =
@@ -51,7 +36,6 @@ returns c =
     let e : (reaches s 36 && (isServeMode (u8At s 34) && isBitMode (u8At s 35))) ≡ false = cc in
     rw e
 
--- src/lib.rt:162:1
 returns-2 : tie.Need-returns-2
 unfolding group062Of
 returns-2 c =

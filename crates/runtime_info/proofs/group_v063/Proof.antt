@@ -1,22 +1,14 @@
-use mathlib.Core.Bool.{true, false, _&&_}
+use mathlib.Core.Bool.{true, false}
 use mathlib.Core.Path.{_≡_}
 use borrow.Author.Tests.{not-true, not-false}
-use Rattle.le.specs.Le.{u8At}
-use Rattle.runtime_info.specs.Runtime.{reaches, group063Of}
 use borrow.Author.Needs.{needs}
+use Rattle.runtime_info.specs.Runtime.{reaches, group063Of}
 use Rattle.runtime_info.proofs.group_v063.Statement.{statement}
 use Rattle.runtime_info.proofs.group_v063.Tie as tie
-use Rattle.runtime_info.proofs.group_v063.Reads as reads
-use Rattle.runtime_info.proofs.group_v063.Lts as lts
-use Rattle.le.proofs.flag_at.Reads as flag-at-reads
-use Rattle.le.proofs.u8_at.Reads as u8-at-reads
-use Rattle.runtime_info.proofs.reaches_end.Reads as reaches-end-reads
 
--- src/lib.rt:180:9
 reaches-end-requires : tie.Need-reaches-end-requires
 reaches-end-requires c κs = search needs
 
--- src/lib.rt:181:9
 returns : tie.Need-returns
 unfolding group063Of
 returns c =
@@ -25,19 +17,15 @@ returns c =
     let e : (reaches s 39) ≡ false = cc in
     rw e
 
--- src/lib.rt:184:23
 flag-at-requires : tie.Need-flag-at-requires
 flag-at-requires c κs = search needs
 
--- src/lib.rt:185:24
 u8-at-requires : tie.Need-u8-at-requires
 u8-at-requires c κs = search needs
 
--- src/lib.rt:186:23
 flag-at-requires-2 : tie.Need-flag-at-requires-2
 flag-at-requires-2 c κs = search needs
 
--- src/lib.rt:177:1
 returns-2 : tie.Need-returns-2
 unfolding group063Of
 returns-2 c =

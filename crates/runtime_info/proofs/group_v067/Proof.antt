@@ -1,35 +1,24 @@
 use mathlib.Core.Bool.{true, false, _&&_}
 use mathlib.Core.Path.{_≡_}
 use borrow.Author.Tests.{not-true, not-false}
+use borrow.Author.Needs.{needs}
 use Rattle.le.specs.Le.{u8At}
 use Rattle.runtime_info.specs.Runtime.{reaches, isLimpMode, group067Of}
-use borrow.Author.Needs.{needs}
 use Rattle.runtime_info.proofs.group_v067.Statement.{statement}
 use Rattle.runtime_info.proofs.group_v067.Tie as tie
-use Rattle.runtime_info.proofs.group_v067.Reads as reads
-use Rattle.runtime_info.proofs.group_v067.Lts as lts
-use Rattle.le.proofs.both.Reads as both-reads
-use Rattle.le.proofs.u8_at.Reads as u8-at-reads
-use Rattle.runtime_info.proofs.known_limp_mode.Reads as known-limp-mode-reads
-use Rattle.runtime_info.proofs.reaches_end.Reads as reaches-end-reads
 
--- src/lib.rt:193:9
 u8-at-requires : tie.Need-u8-at-requires
 u8-at-requires c κs = search needs
 
--- src/lib.rt:194:18
 reaches-end-requires : tie.Need-reaches-end-requires
 reaches-end-requires c κs = search needs
 
--- src/lib.rt:194:41
 known-limp-mode-requires : tie.Need-known-limp-mode-requires
 known-limp-mode-requires c κs = search needs
 
--- src/lib.rt:194:9
 both-requires : tie.Need-both-requires
 both-requires c κs = search needs
 
--- src/lib.rt:195:9
 returns : tie.Need-returns
 unfolding group067Of
 returns c =
@@ -38,11 +27,9 @@ returns c =
     let e : (reaches s 57 && isLimpMode (u8At s 56)) ≡ false = cc in
     rw e
 
--- src/lib.rt:198:18
 u8-at-requires-2 : tie.Need-u8-at-requires-2
 u8-at-requires-2 c κs = search needs
 
--- src/lib.rt:190:1
 returns-2 : tie.Need-returns-2
 unfolding group067Of
 returns-2 c =

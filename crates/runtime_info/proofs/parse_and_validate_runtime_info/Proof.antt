@@ -1,71 +1,57 @@
 use Prim.Native.Nat.{_+_, _<_, _≤_}
+use native.Mathlib.Omega.{arith}
 use mathlib.Core.Path.{_≡_, _∙_, sym, ap}
 use mathlib.Core.Bool.{true, false}
+use borrow.Author.Tests.{lt-ltb, le-ltb, not-true, not-false}
+use borrow.Author.Needs.{needs}
 use Rattle.le.specs.Le.{startsWith}
 use Rattle.runtime_info.specs.declared.RuntimeHeader.{RuntimeHeader}
 use Rattle.runtime_info.specs.Runtime.{headerOf, magic}
-use borrow.Author.Tests.{lt-ltb, le-ltb, not-true, not-false}
-use native.Mathlib.Omega.{arith}
-use borrow.Author.Needs.{needs}
 use Rattle.runtime_info.proofs.parse_and_validate_runtime_info.Statement.{statement}
 use Rattle.runtime_info.proofs.parse_and_validate_runtime_info.Tie as tie
-use Rattle.runtime_info.proofs.parse_and_validate_runtime_info.Reads as reads
-use Rattle.runtime_info.proofs.parse_and_validate_runtime_info.Lts as lts
-use Rattle.le.proofs.starts_with.Reads as starts-with-reads
-use Rattle.le.proofs.u8_at.Reads as u8-at-reads
-use Rattle.runtime_info.proofs.read_head.Reads as read-head-reads
 
--- src/lib.rt:99:9
 returns : tie.Need-returns
 unfolding headerOf
 returns c = rw (lt-ltb _ _ (c .if1 .taken))
 
--- src/lib.rt:101:31
 slice-aggregate-starts-with : tie.Need-slice-aggregate-starts-with
 slice-aggregate-starts-with c = search needs
 
--- src/lib.rt:101:9
 starts-with-requires : tie.Need-starts-with-requires
 starts-with-requires c κs = search needs
 
--- src/lib.rt:102:9
 returns-2 : tie.Need-returns-2
 unfolding headerOf
 returns-2 c =
     let e : startsWith (c .before .before .before .before .before .args .«data» .now) magic ≡ false = sym (c .before .starts-with .ensures) ∙ not-true _ (c .if2 .taken) in
     rw (le-ltb _ _ (c .before .before .before .if1 .left), e)
 
--- src/lib.rt:104:8
 u8-at-requires : tie.Need-u8-at-requires
 u8-at-requires c κs = search needs
 
--- src/lib.rt:105:9
 returns-3 : tie.Need-returns-3
 unfolding headerOf
 returns-3 c =
     let e : startsWith (c .before .before .before .before .before .before .before .args .«data» .now) magic ≡ true =
-        sym (c .before .before .before .starts-with .ensures) ∙ not-false _ (c .before .before .if2 .left) in
+    sym (c .before .before .before .starts-with .ensures) ∙ not-false _ (c .before .before .if2 .left) in
     rw (le-ltb _ _ (c .before .before .before .before .before .if1 .left), e, ← c .before .u8-at .ensures, lt-ltb _ _ (c .if3 .taken))
 
--- src/lib.rt:108:9
 returns-4 : tie.Need-returns-4
 unfolding headerOf
 returns-4 c =
     let e : startsWith (c .before .before .before .before .before .before .before .before .args .«data» .now) magic ≡ true =
-        sym (c .before .before .before .before .starts-with .ensures) ∙ not-false _ (c .before .before .before .if2 .left) in
+    sym (c .before .before .before .before .starts-with .ensures) ∙ not-false _ (c .before .before .before .if2 .left) in
     let over : 4294967295 < c .before .before .before .before .before .before .before .before .args .ram-base + 8 = omega arith in
     rw (le-ltb _ _ (c .before .before .before .before .before .before .if1 .left), e, ← c .before .before .u8-at .ensures, le-ltb _ _ (c .before .if3 .left), lt-ltb _ _ over)
 
--- src/lib.rt:110:25
 read-head-requires : tie.Need-read-head-requires
 read-head-requires c κs = search needs
 
--- src/lib.rt:95:1
 returns-5 : tie.Need-returns-5
 unfolding headerOf
 returns-5 c =
     let e : startsWith (c .before .before .before .before .before .before .before .before .before .args .«data» .now) magic ≡ true =
-        sym (c .before .before .before .before .before .starts-with .ensures) ∙ not-false _ (c .before .before .before .before .if2 .left) in
+    sym (c .before .before .before .before .before .starts-with .ensures) ∙ not-false _ (c .before .before .before .before .if2 .left) in
     let fits : c .before .before .before .before .before .before .before .before .before .args .ram-base + 8 ≤ 4294967295 = omega arith in
     rw (le-ltb _ _ (c .before .before .before .before .before .before .before .if1 .left), e, ← c .before .before .before .u8-at .ensures, le-ltb _ _ (c .before .before .if3 .left), le-ltb _ _ fits) (ap RuntimeHeader.Head (c .read-head .ensures))
 

@@ -1,0 +1,25 @@
+-- The inputs of document 01's starred cases.
+use Prim.Native.Nat.{ℕ}
+use mathlib.Core.List.{List, [], _∷_}
+use lib.ListN.{take, set}
+
+-- Program `runtime`
+abbrev pub ramBase : ℕ
+ramBase = 536870912
+
+abbrev pub recordR1 : List ℕ
+recordR1 =
+    0x73 ∷ 0x64 ∷ 0x72 ∷ 0x72 ∷ 0x24 ∷ 0x01 ∷ 0x02 ∷ 0x01 ∷ 0x05 ∷ 0x00 ∷ 0x00 ∷ 0x00 ∷ 0x00 ∷ 0x00 ∷ 0x00 ∷ 0x20 ∷ 0x00 ∷ 0x00 ∷ 0x01 ∷ 0x00 ∷ 0x00 ∷ 0x00 ∷ 0x00
+    ∷ 0x00 ∷ 0x01 ∷ 0x00 ∷ 0x02 ∷ 0x0B ∷ 0x96 ∷ 0x00 ∷ 0x2C ∷ 0x01 ∷ 0x2C ∷ 0x01 ∷ 0x01 ∷ 0x03 ∷ []
+
+-- R1 cut to 33
+abbrev pub recordR2 : List ℕ
+recordR2 = take 33 recordR1
+
+-- size byte 19
+abbrev pub recordR3 : List ℕ
+recordR3 = set recordR1 4 19
+
+-- byte 27 = 32
+abbrev pub recordR4 : List ℕ
+recordR4 = set recordR1 27 32

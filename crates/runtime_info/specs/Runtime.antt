@@ -65,9 +65,12 @@ abbrev pub isLimpMode : ℕ → Bool
 isLimpMode b = leb b 3
 
 -- 0.6.0 [34]: three flags 24, voltage 27, u16 ice 28, fire 30, sysclk 32
+abbrev pub present060 : List ℕ → Bool
+present060 s = reaches s 34 && isVoltage (u8At s 27)
+
 unfoldable pub group060Of : List ℕ → GroupV060
 group060Of s =
-    pick (reaches s 34 && isVoltage (u8At s 27))
+    pick (present060 s)
     (GroupV060.Present
     (record {
       «overclock_enabled» = flagAt s 24;
@@ -81,11 +84,12 @@ group060Of s =
     GroupV060.Absent
 
 -- 0.6.2 [36]: serve mode 34, bit mode 35
+abbrev pub present062 : List ℕ → Bool
+present062 s = reaches s 36 && (isServeMode (u8At s 34) && isBitMode (u8At s 35))
+
 unfoldable pub group062Of : List ℕ → GroupV062
 group062Of s =
-    pick (reaches s 36 && (isServeMode (u8At s 34) && isBitMode (u8At s 35)))
-    (GroupV062.Present (record { «fire_serve_mode» = u8At s 34; «bit_mode» = u8At s 35 }))
-    GroupV062.Absent
+    pick (present062 s) (GroupV062.Present (record { «fire_serve_mode» = u8At s 34; «bit_mode» = u8At s 35 })) GroupV062.Absent
 
 -- 0.6.3 [39]: flag 36, data pins 37, flag 38
 unfoldable pub group063Of : List ℕ → GroupV063
@@ -95,9 +99,12 @@ group063Of s =
     GroupV063.Absent
 
 -- 0.6.7 [57]: peri 39, limp 56
+abbrev pub present067 : List ℕ → Bool
+present067 s = reaches s 57 && isLimpMode (u8At s 56)
+
 unfoldable pub group067Of : List ℕ → GroupV067
 group067Of s =
-    pick (reaches s 57 && isLimpMode (u8At s 56))
+    pick (present067 s)
     (GroupV067.Present (record { «peri_en» = u8At s 39; «limp_mode» = u8At s 56 }))
     GroupV067.Absent
 

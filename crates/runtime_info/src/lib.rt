@@ -1,7 +1,7 @@
 // The runtime record that a running board keeps in RAM (parsing.rs, and parse_ram of lib.rs).
 ghost use mathlib.Core.Path.{_≡_};
 ghost use Prim.Native.Nat.{_+_, _≤_};
-ghost use Rattle.runtime_info.specs.Runtime.{headOf, headerOf, reaches, isVoltage, isServeMode, isBitMode, isLimpMode, group060Of, group062Of, group063Of, group067Of, fieldsOf, runtimeOf};
+ghost use Rattle.runtime_info.specs.Runtime.{headOf, headerOf, reaches, isVoltage, isServeMode, isBitMode, isLimpMode, present060, present062, present067, group060Of, group062Of, group063Of, group067Of, fieldsOf, runtimeOf};
 
 pub struct SdrrRuntimeInfoHeader {
     pub image_sel: u8,
@@ -141,36 +141,48 @@ fn known_limp_mode(b: u8) -> bool
     b <= 3
 }
 
+// Whether the group 0.6.0 is present.
+fn has_v060(data: &[u8]) -> bool
+    ensures { λ r. ⌜ r ≡ present060 (now («data» .entry)) ⌝ }
+{
+    le::both(reaches_end(data, 34), known_fire_vreg(le::u8_at(data, 27)))
+}
+
 fn group_v060(data: &[u8]) -> GroupV060
     ensures { λ r. ⌜ r ≡ group060Of (now («data» .entry)) ⌝ }
 {
-    let vreg = le::u8_at(data, 27);
-    if !le::both(reaches_end(data, 34), known_fire_vreg(vreg)) {
+    if !has_v060(data) {
         return GroupV060::Absent;
     }
     GroupV060::Present(RuntimeV060 {
         overclock_enabled: le::flag_at(data, 24),
         status_led_enabled: le::flag_at(data, 25),
         swd_enabled: le::flag_at(data, 26),
-        fire_vreg: vreg,
+        fire_vreg: le::u8_at(data, 27),
         ice_freq_mhz: le::u16_at(data, 28),
         fire_freq_mhz: le::u16_at(data, 30),
         sysclk_mhz: le::u16_at(data, 32),
     })
 }
 
+// Whether the group 0.6.2 is present, whatever became of 0.6.0.
+fn has_v062(data: &[u8]) -> bool
+    ensures { λ r. ⌜ r ≡ present062 (now («data» .entry)) ⌝ }
+{
+    let serve = known_fire_serve_mode(le::u8_at(data, 34));
+    let bits = known_bit_mode(le::u8_at(data, 35));
+    le::both(reaches_end(data, 36), le::both(serve, bits))
+}
+
 fn group_v062(data: &[u8]) -> GroupV062
     ensures { λ r. ⌜ r ≡ group062Of (now («data» .entry)) ⌝ }
 {
-    let serve = le::u8_at(data, 34);
-    let bits = le::u8_at(data, 35);
-    let known = le::both(known_fire_serve_mode(serve), known_bit_mode(bits));
-    if !le::both(reaches_end(data, 36), known) {
+    if !has_v062(data) {
         return GroupV062::Absent;
     }
     GroupV062::Present(RuntimeV062 {
-        fire_serve_mode: serve,
-        bit_mode: bits,
+        fire_serve_mode: le::u8_at(data, 34),
+        bit_mode: le::u8_at(data, 35),
     })
 }
 
@@ -187,16 +199,22 @@ fn group_v063(data: &[u8]) -> GroupV063
     })
 }
 
+// Whether the group 0.6.7 is present.
+fn has_v067(data: &[u8]) -> bool
+    ensures { λ r. ⌜ r ≡ present067 (now («data» .entry)) ⌝ }
+{
+    le::both(reaches_end(data, 57), known_limp_mode(le::u8_at(data, 56)))
+}
+
 fn group_v067(data: &[u8]) -> GroupV067
     ensures { λ r. ⌜ r ≡ group067Of (now («data» .entry)) ⌝ }
 {
-    let limp = le::u8_at(data, 56);
-    if !le::both(reaches_end(data, 57), known_limp_mode(limp)) {
+    if !has_v067(data) {
         return GroupV067::Absent;
     }
     GroupV067::Present(RuntimeV067 {
         peri_en: le::u8_at(data, 39),
-        limp_mode: limp,
+        limp_mode: le::u8_at(data, 56),
     })
 }
 

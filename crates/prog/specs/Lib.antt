@@ -1,0 +1,10 @@
+pub mod Prog
+pub mod Read
+pub mod Run
+pub mod Reach
+pub mod Agree
+pub mod Cut
+pub mod Parts
+pub mod Honest
+pub mod Counts
+pub mod Cases

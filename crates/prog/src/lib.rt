@@ -1,0 +1,1 @@
+// Read programs: definitions and laws only, no code.

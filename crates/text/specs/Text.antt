@@ -1,0 +1,42 @@
+-- Document 01, "String": chunks of 64 bytes, at most 1,024; the first NUL ends it.
+use Prim.Native.Nat.{ℕ, zero, suc, _+_, _-_}
+use mathlib.Core.Bool.{Bool, true, false, _||_}
+use mathlib.Core.List.{List, [], _∷_, _++_}
+use lib.Dec.{ltb, eqb}
+use lib.ListN.{length}
+use Rattle.prog.specs.Prog.{Prog, done, fetch, pick}
+use Rattle.utf8.specs.Utf8.{isUtf8}
+use Rattle.text.specs.declared.Text.{Text as Str}
+
+-- an accepted string is that part of the image, without its NUL
+abbrev pub accepted : ℕ → ℕ → Str
+accepted offset len = record { number = 0; offset = offset; length = len }
+
+-- a refused one shows offset 0 and length 0
+abbrev pub refused : ℕ → Str
+refused n = record { number = n; offset = 0; length = 0 }
+
+unfoldable pub hasNul : List ℕ → Bool
+hasNul [] = false
+hasNul (b ∷ s) = eqb b 0 || hasNul s
+
+-- the bytes before the first NUL
+unfoldable pub beforeNul : List ℕ → List ℕ
+beforeNul [] = []
+beforeNul (b ∷ s) = pick (eqb b 0) [] (b ∷ beforeNul s)
+
+-- UTF-8 is judged only on a string whose NUL was found. 21: not UTF-8.
+unfoldable pub judged : ℕ → List ℕ → Str
+judged offset s = pick (isUtf8 s) (accepted offset (length s)) (refused 21)
+
+-- The chunks that are left, of which the next starts at address a; s is what the earlier ones held. Each chunk must be wholly readable.
+-- 2: a chunk ended before a NUL was found. 20: 1,024 bytes, no NUL.
+unfoldable pub chunksP : ℕ → ℕ → ℕ → ℕ → List ℕ → Prog Str
+chunksP zero base offset a s = done (refused 20)
+chunksP (suc left) base offset a s =
+    fetch base a 64 (refused 2) λ chunk.
+    pick (hasNul chunk) (done (judged offset (s ++ beforeNul chunk))) (chunksP left base offset (a + 64) (s ++ chunk))
+
+-- 3: pointer below base.
+unfoldable pub textP : ℕ → ℕ → Prog Str
+textP base pointer = pick (ltb pointer base) (done (refused 3)) (chunksP 16 base (pointer - base) pointer [])

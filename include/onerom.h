@@ -1,0 +1,68 @@
+/* The proved One ROM board reader: what C and Rust call.
+ *
+ * Link with libonerom.a (`rt staticlib onerom` writes target/staticlib/libonerom.a).
+ * Every call answers a number: 0 accepted, otherwise the refusal's number of document 01.
+ * Pointers: a part of length 0 may be NULL; what one call is lent may not overlap.
+ * A refused call changes no byte and no word of what it is lent. */
+#ifndef ONEROM_H
+#define ONEROM_H
+
+#include <stddef.h>
+#include <stdint.h>
+
+#ifdef __cplusplus
+extern "C" {
+#endif
+
+/* The runtime record.
+ *
+ * record[0 .. record_len)  the record, of any length
+ * ram_base                 the address that it was read at
+ * words                    ONEROM_RUNTIME_WORDS words, written where the record is accepted
+ *
+ * 2: under 20 bytes. 60: magic. 61: size byte under 20. 62: RAM base plus 8 above 2^32 - 1.
+ *
+ * A group's first word is 1 where the group is present. An absent group is all zero.
+ * A flag is 0 or 1; counting, data pins and peri are the record's bytes. */
+#define ONEROM_RUNTIME_WORDS 25
+
+enum onerom_runtime_word {
+    ONEROM_RUNTIME_IMAGE = 0,
+    ONEROM_RUNTIME_SET = 1,
+    ONEROM_RUNTIME_COUNTING = 2,
+    ONEROM_RUNTIME_ACCESS_COUNT = 3,
+    ONEROM_RUNTIME_ACCESS_COUNT_ADDRESS = 4,
+    ONEROM_RUNTIME_TABLE = 5,
+    ONEROM_RUNTIME_TABLE_SIZE = 6,
+
+    ONEROM_RUNTIME_060 = 7, /* present */
+    ONEROM_RUNTIME_060_OVERCLOCK = 8,
+    ONEROM_RUNTIME_060_STATUS_LED = 9,
+    ONEROM_RUNTIME_060_SWD = 10,
+    ONEROM_RUNTIME_060_VOLTAGE = 11, /* 0..31, 254, 255 */
+    ONEROM_RUNTIME_060_ICE_MHZ = 12,
+    ONEROM_RUNTIME_060_FIRE_MHZ = 13,
+    ONEROM_RUNTIME_060_SYSCLK_MHZ = 14,
+
+    ONEROM_RUNTIME_062 = 15,            /* present */
+    ONEROM_RUNTIME_062_SERVE_MODE = 16, /* 0, 1 */
+    ONEROM_RUNTIME_062_BIT_MODE = 17,   /* 1, 2 */
+
+    ONEROM_RUNTIME_063 = 18, /* present */
+    ONEROM_RUNTIME_063_DMA_COPY = 19,
+    ONEROM_RUNTIME_063_DATA_PINS = 20,
+    ONEROM_RUNTIME_063_FORCE_16_BIT = 21,
+
+    ONEROM_RUNTIME_067 = 22, /* present */
+    ONEROM_RUNTIME_067_PERI = 23,
+    ONEROM_RUNTIME_067_LIMP = 24 /* 0..3 */
+};
+
+uint32_t onerom_runtime(const uint8_t *record, size_t record_len, uint32_t ram_base,
+                        uint32_t words[ONEROM_RUNTIME_WORDS]);
+
+#ifdef __cplusplus
+}
+#endif
+
+#endif

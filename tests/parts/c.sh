@@ -1,0 +1,17 @@
+# The static library, called from C through include/onerom.h.
+
+test_c_library() {
+    rt staticlib onerom >target/staticlib.log 2>&1 || { tail -n 5 target/staticlib.log; return 1; }
+    [ -f target/staticlib/libonerom.a ]
+}
+
+test_c_runtime() {
+    cc -std=c99 -Wall -Wextra -Werror -pedantic -Iinclude -o target/c-runtime tests/c/runtime.c target/staticlib/libonerom.a &&
+        [ "$(target/c-runtime)" = ok ]
+}
+
+# The header serves C++ too.
+test_c_header_in_cpp() {
+    printf '#include "onerom.h"\nint main() { uint32_t w[ONEROM_RUNTIME_WORDS]; return (int)onerom_runtime(nullptr, 0, 0, w); }\n' >target/header.cpp &&
+        c++ -std=c++11 -Wall -Werror -Iinclude -c -o target/header.o target/header.cpp
+}

@@ -1,0 +1,2 @@
+pub mod ExtraInfo
+pub mod Laws

@@ -1,0 +1,3 @@
+pub mod Version
+pub mod Header
+pub mod Laws

@@ -1,0 +1,21 @@
+-- Document 01, "Report": each ROM row's name is an item of its own, its number the row's reason.
+use Prim.Native.Nat.{ℕ}
+use mathlib.Core.List.{List, [], _∷_}
+use Rattle.prog.specs.Prog.{Prog, done, also, mapP, aside}
+use Rattle.text.specs.declared.Text.{Text}
+use Rattle.text.specs.Text.{textP, refused}
+use Rattle.walk.specs.Walk.{NameAt, noName, nameAt, Rom, RomSet, Part, stop, found, romsOf}
+
+-- a missing name is reason 1 without a read
+unfoldable pub nameP : ℕ → NameAt → Prog Text
+nameP base noName = done (refused 1)
+nameP base (nameAt pointer) = textP base pointer
+
+unfoldable pub namesP : ℕ → List Rom → Prog (List Text)
+namesP base [] = done []
+namesP base (r ∷ rs) = mapP (λ t. t .0 ∷ t .1) (also (nameP base (r .name)) λ t. namesP base rs)
+
+-- Names of an accepted walk are items. Those read in a refused walk are reads that are not shown.
+unfoldable pub walkNamesP : ℕ → Part (List RomSet) → Prog (List Text)
+walkNamesP base (stop n passed) = aside (namesP base passed) (done [])
+walkNamesP base (found ss) = namesP base (romsOf ss)

@@ -1,0 +1,60 @@
+-- Document 01, "ROM sets and ROM infos": set rows of eight words and ROM rows of seven.
+use Prim.Native.Nat.{ℕ, _+_, _*_}
+use mathlib.Core.Bool.{Bool}
+use mathlib.Core.List.{List, [], _∷_, _++_, map}
+use lib.Dec.{ltb}
+use lib.ListN.{length, drop}
+use Rattle.text.specs.declared.Text.{Text}
+use Rattle.walk.specs.Walk.{Rom, RomSet, romsOf}
+
+-- the words of a set row, and of a ROM row
+abbrev pub setWidth : ℕ
+setWidth = 8
+
+abbrev pub romWidth : ℕ
+romWidth = 7
+
+-- data pointer, size, first ROM row, ROM count, serve, state, config address, overrides address (0 absent)
+unfoldable pub setRow : ℕ → RomSet → List ℕ
+setRow first s =
+    s .dataPointer ∷ s .size ∷ first ∷ s .romCount ∷ s .serve ∷ s .state ∷ s .config ∷ s .overrides ∷ []
+
+unfoldable pub countsOf : List RomSet → ℕ
+countsOf [] = 0
+countsOf (s ∷ ss) = s .romCount + countsOf ss
+
+-- The first ROM row is the sum of the earlier sets' counts.
+unfoldable pub setRowsAfter : List RomSet → List RomSet → List ℕ
+setRowsAfter earlier [] = []
+setRowsAfter earlier (s ∷ ss) = setRow (countsOf earlier) s ++ setRowsAfter (earlier ++ (s ∷ [])) ss
+
+abbrev pub setRows : List RomSet → List ℕ
+setRows ss = setRowsAfter [] ss
+
+-- a ROM row without the name's words: type, three states
+unfoldable pub romFront : Rom → List ℕ
+romFront r = r .romType ∷ r .cs1 ∷ r .cs2 ∷ r .cs3 ∷ []
+
+-- the name's words: its image offset, length, and reason (0 named; 1 no pointer read or one below base or FFFFFFFF; otherwise the string's
+-- number). A missing name has offset and length 0.
+unfoldable pub nameWords : Text → List ℕ
+nameWords t = t .offset ∷ t .length ∷ t .number ∷ []
+
+unfoldable pub romRow : Rom → Text → List ℕ
+romRow r t = romFront r ++ nameWords t
+
+unfoldable pub romRows : List Rom → List Text → List ℕ
+romRows [] ts = []
+romRows (r ∷ rs) [] = []
+romRows (r ∷ rs) (t ∷ ts) = romRow r t ++ romRows rs ts
+
+-- "Walk": only a walk otherwise accepted gives 44: set rows short, then 45: ROM rows short. Short is counted in words.
+abbrev pub shortSets : List RomSet → ℕ → Bool
+shortSets ss lent = ltb lent (setWidth * length ss)
+
+abbrev pub shortRoms : List RomSet → ℕ → Bool
+shortRoms ss lent = ltb lent (romWidth * length (romsOf ss))
+
+-- lent words, of which the first ones are overwritten
+abbrev pub overwritten : List ℕ → List ℕ → List ℕ
+overwritten words lent = words ++ drop (length words) lent

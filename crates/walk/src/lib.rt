@@ -1,0 +1,1 @@
+// The walk over ROM sets and ROM infos (parsing.rs `read_rom_sets`, `read_rom_infos`).

@@ -1,1 +1,4 @@
 pub mod Text
+pub mod Nul
+pub mod Laws
+pub mod Cases

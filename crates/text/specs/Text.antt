@@ -1,9 +1,9 @@
 -- Document 01, "String": chunks of 64 bytes, at most 1,024; the first NUL ends it.
 use Prim.Native.Nat.{ℕ, zero, suc, _+_, _-_}
-use mathlib.Core.Bool.{Bool, true, false, _||_}
+use mathlib.Core.Bool.{Bool, false, _||_}
 use mathlib.Core.List.{List, [], _∷_, _++_}
-use lib.Dec.{ltb, eqb}
-use lib.ListN.{length}
+use lib.Dec.{leb, ltb, eqb}
+use lib.ListN.{length, take, drop}
 use Rattle.prog.specs.Prog.{Prog, done, fetch, pick}
 use Rattle.utf8.specs.Utf8.{isUtf8}
 use Rattle.text.specs.declared.Text.{Text as Str}
@@ -15,6 +15,14 @@ accepted offset len = record { number = 0; offset = offset; length = len }
 -- a refused one shows offset 0 and length 0
 abbrev pub refused : ℕ → Str
 refused n = record { number = n; offset = 0; length = 0 }
+
+-- the bytes of a string
+abbrev pub bytesOf : List ℕ → Str → List ℕ
+bytesOf x t = take (t .length) (drop (t .offset) x)
+
+-- the part of the image that a string's offset and length name; empty where that does not lie in the image
+abbrev pub partOf : List ℕ → Str → List ℕ
+partOf x t = pick (leb (t .offset + t .length) (length x)) (bytesOf x t) []
 
 unfoldable pub hasNul : List ℕ → Bool
 hasNul [] = false

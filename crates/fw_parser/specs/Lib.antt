@@ -1,0 +1,4 @@
+pub mod Opening
+pub mod Shown
+pub mod Cuts
+pub mod CutOpening

@@ -1,0 +1,174 @@
+-- Document 01, "Report": the opening of an image.
+use Prim.Native.Nat.{ℕ, _+_}
+use mathlib.Core.Bool.{Bool, _&&_, _||_}
+use mathlib.Core.List.{List, [], _∷_}
+use lib.Dec.{ltb, eqb}
+use lib.ListN.{length}
+use Rattle.le.specs.Choice.{pick}
+use Rattle.prog.specs.Prog.{Prog, done, _>>=_, also, mapP, run}
+use Rattle.text.specs.declared.Text.{Text}
+use Rattle.text.specs.Text.{textP}
+use Rattle.header.specs.declared.SdrrInfoFields.{SdrrInfoFields}
+use Rattle.header.specs.declared.SdrrInfoHeader.{SdrrInfoHeader}
+use Rattle.header.specs.declared.HeaderAnswer.{HeaderAnswer}
+use Rattle.header.specs.Version.{from050}
+use Rattle.header.specs.Header.{headerP, baseAfter}
+use Rattle.extra_info.specs.declared.ExtraInfoItem.{ExtraInfoItem}
+use Rattle.extra_info.specs.ExtraInfo.{extraInfoP}
+use Rattle.metadata.specs.declared.MetadataAnswer.{MetadataAnswer}
+use Rattle.metadata.specs.declared.MetadataItem.{MetadataItem}
+use Rattle.metadata.specs.Metadata.{metadataP}
+use Rattle.pins.specs.declared.PinsItem.{PinsItem}
+use Rattle.pins.specs.Pins.{pinsP}
+use Rattle.walk.specs.Walk.{RomSet, Part, stop, found, walkP, romsOf}
+use Rattle.walk.specs.Names.{walkNamesP}
+use Rattle.walk.specs.Rows.{setRows, romRows, shortSets, shortRoms, overwritten}
+use Rattle.fw_parser.specs.declared.Settings.{Settings}
+use Rattle.fw_parser.specs.declared.SetsItem.{SetsItem}
+use Rattle.fw_parser.specs.declared.SdrrInfo.{SdrrInfo}
+
+-- ---- metadata and sets
+
+-- metadata: not looked for, or looked for with its answer
+pub data Looked : Type 0 where
+  notLookedFor : Looked
+  looked : MetadataAnswer → Looked
+
+-- "Metadata": looked for only from 0.5.0, at the header's sets pointer
+unfoldable pub lookP : ℕ → SdrrInfoHeader → Prog Looked
+lookP base h = pick (from050 (h .fields .version)) (mapP looked (metadataP base (h .«rom_sets_ptr»))) (done notLookedFor)
+
+-- the set count and the sets pointer that the walk goes by. From 0.5.0 the header's are dropped; metadata's take their place where it is
+-- accepted, and its refusals leave the count 0
+abbrev pub setCount : SdrrInfoHeader → Looked → ℕ
+setCount h notLookedFor = h .«rom_set_count»
+setCount h (looked m) = m .«rom_set_count»
+
+abbrev pub setsPointer : SdrrInfoHeader → Looked → ℕ
+setsPointer h notLookedFor = h .«rom_sets_ptr»
+setsPointer h (looked m) = m .«rom_sets_ptr»
+
+abbrev pub metadataEnded : Looked → Bool
+metadataEnded notLookedFor = Bool.false
+metadataEnded (looked m) = eqb (m .number) 2
+
+-- what the sets item is made of: the set count that the walk was given, and the walk
+pub record Sets : Type 0 where
+  pub count : ℕ
+  pub walk : Part (List RomSet)
+
+abbrev pub counted : ℕ → Part (List RomSet) → Sets
+counted n w = record { count = n; walk = w }
+
+-- Sets are marked ended, and none is served, where metadata ended.
+unfoldable pub setsP : ℕ → SdrrInfoHeader → Looked → Prog Sets
+setsP base h l =
+    mapP (counted (setCount h l)) (pick (metadataEnded l) (done (stop 2 [])) (walkP base (h .fields) (setCount h l) (setsPointer h l)))
+
+-- ---- the items, in a row
+
+pub record Items : Type 0 where
+  pub buildDate : Text
+  pub hwRev : Text
+  pub extraInfo : ExtraInfoItem
+  pub metadata : Looked
+  pub sets : Sets
+  pub names : List Text
+  pub pins : PinsItem
+
+abbrev pub Row : Type 0
+Row = Text × (Text × (ExtraInfoItem × (Looked × (Sets × (List Text × PinsItem)))))
+
+abbrev pub itemsOf : Row → Items
+itemsOf t =
+    record {
+      buildDate = t .0;
+      hwRev = t .1 .0;
+      extraInfo = t .1 .1 .0;
+      metadata = t .1 .1 .1 .0;
+      sets = t .1 .1 .1 .1 .0;
+      names = t .1 .1 .1 .1 .1 .0;
+      pins = t .1 .1 .1 .1 .1 .1;
+    }
+
+-- the reads of every item, with the base in force after the header
+unfoldable pub rowP : ℕ → SdrrInfoHeader → Prog Row
+rowP base h =
+    also (textP base (h .«build_date_ptr»)) λ date.
+    also (textP base (h .«hw_rev_ptr»)) λ rev.
+    also (extraInfoP base (h .«extra_ptr») (h .fields .version)) λ extra.
+    also (lookP base h) λ l.
+    also (setsP base h l) λ sets.
+    also (walkNamesP base (sets .walk)) λ names.
+    pinsP base (h .«pins_ptr»)
+
+-- ---- the report
+
+abbrev pub metadataItem : Looked → MetadataItem
+metadataItem notLookedFor = MetadataItem.NotLookedFor
+metadataItem (looked m) = MetadataItem.Looked (m .number)
+
+-- A refused walk keeps the set count and serves no set. The sets served are the set count where the sets item is accepted, otherwise none.
+abbrev pub setsItem : ℕ → Part (List RomSet) → SetsItem
+setsItem count (stop n passed) = record { number = n; «rom_set_count» = count; served = 0 }
+setsItem count (found ss) = record { number = 0; «rom_set_count» = count; served = count }
+
+unfoldable pub reportOf : SdrrInfoHeader → Items → SdrrInfo
+reportOf h i =
+    record {
+      fields = h .fields;
+      «build_date» = i .buildDate;
+      «hw_rev» = i .hwRev;
+      «extra_info» = i .extraInfo;
+      metadata = metadataItem (i .metadata);
+      «rom_sets» = setsItem (i .sets .count) (i .sets .walk);
+      pins = i .pins;
+    }
+
+-- the sets of an accepted walk; a refused one writes no rows
+abbrev pub setsOf : Part (List RomSet) → List RomSet
+setsOf (stop n passed) = []
+setsOf (found ss) = ss
+
+-- ---- the opening
+
+-- refused with a number; or the report, the sets that the rows list, and the names
+pub data Opened : Type 0 where
+  refused : ℕ → Opened
+  opened : SdrrInfo → List RomSet → List Text → Opened
+
+-- 44, then 45, only from a walk otherwise accepted. The verdict needs only the lengths of the lent rows, in words.
+unfoldable pub verdict : ℕ → ℕ → SdrrInfoHeader → Items → Opened
+verdict setWords romWords h i =
+    pick (shortSets (setsOf (i .sets .walk)) setWords) (refused 44)
+    (pick (shortRoms (setsOf (i .sets .walk)) romWords) (refused 45)
+    (opened (reportOf h i) (setsOf (i .sets .walk)) (i .names)))
+
+-- 2, 10 to 13 are the header's refusals; other refusals are items
+abbrev pub afterHeader : Settings → ℕ → ℕ → HeaderAnswer → Prog Opened
+afterHeader s setWords romWords a =
+    pick (eqb (a .number) 0)
+    (mapP (λ t. verdict setWords romWords (a .header) (itemsOf t))
+    (rowP (baseAfter (s .«flash_base») (s .«cs0_base») (a .header .fields .«stm_line»)) (a .header)))
+    (done (refused (a .number)))
+
+-- the reads of the opening
+unfoldable pub openP : Settings → ℕ → ℕ → Prog Opened
+openP s setWords romWords = headerP (s .«flash_base») (s .«info_offset») >>= afterHeader s setWords romWords
+
+-- "Window check". 1: either base plus image length exceeds 2^32.
+abbrev pub beyondWindow : Settings → List ℕ → Bool
+beyondWindow s x = ltb 4294967296 (s .«flash_base» + length x) || ltb 4294967296 (s .«cs0_base» + length x)
+
+unfoldable pub opening : Settings → ℕ → ℕ → List ℕ → Opened
+opening s setWords romWords x = pick (beyondWindow s x) (refused 1) (run (openP s setWords romWords) x)
+
+-- ---- the rows, as the opening leaves them: a refusal changes no word, an acceptance only the rows it names
+
+abbrev pub setRowsLeft : Opened → List ℕ → List ℕ
+setRowsLeft (refused n) lent = lent
+setRowsLeft (opened r ss names) lent = overwritten (setRows ss) lent
+
+abbrev pub romRowsLeft : Opened → List ℕ → List ℕ
+romRowsLeft (refused n) lent = lent
+romRowsLeft (opened r ss names) lent = overwritten (romRows (romsOf ss) names) lent

@@ -45,7 +45,7 @@ t4-reach = refl
 -- ---- the edges
 
 -- 3 comes before 2
-below-base : run (textP flashBase 134217727) ([]) ≡ refused 3
+below-base : run (textP flashBase 134217727) [] ≡ refused 3
 unfolding textP chunksP judged hasNul beforeNul isUtf8 lacking classOf lowAfter highAfter run answer canRead
 below-base = refl
 
@@ -68,12 +68,12 @@ up-to-top : run (textP 4294966272 4294966272) (replicate 1024 65) ≡ refused 20
 unfolding textP chunksP judged hasNul beforeNul isUtf8 lacking classOf lowAfter highAfter run answer canRead
 up-to-top = refl
 
--- a chunk that starts there, though the image goes on
+-- a chunk that starts at 2^32, though the image goes on
 from-top : run (textP 4294967232 4294967232) (replicate 64 65 ++ replicate 64 0) ≡ refused 2
 unfolding textP chunksP judged hasNul beforeNul isUtf8 lacking classOf lowAfter highAfter run answer canRead
 from-top = refl
 
--- a chunk that goes past it, in a longer image, as the window has it
-past-top : run (textP 4294967264 4294967264) (replicate 40 65 ++ replicate 24 0) ≡ accepted 0 40
+-- a chunk that crosses 2^32, where the image ends
+past-top : run (textP 4294967264 4294967264) (65 ∷ replicate 31 0) ≡ refused 2
 unfolding textP chunksP judged hasNul beforeNul isUtf8 lacking classOf lowAfter highAfter run answer canRead
 past-top = refl

@@ -8,14 +8,14 @@ use mathlib.Core.List.{List, [], _++_}
 use lib.Dec.{ltb, eqb}
 use lib.ListN.{length, getD, take, drop, length-take, length-drop}
 use lib.Seq.{getD-drop, take-add, drop-drop, take-take, length-take-le}
-use borrow.Author.Tests.{ltb-true, ltb-false, eqb-true, eqb-false, lt-ltb, le-ltb}
+use borrow.Author.Tests.{ltb-true, ltb-false, eqb-true, eqb-false, lt-ltb, le-ltb, le-leb, lt-leb}
 use Rattle.prog.specs.Prog.{Prog, canRead, run, tried}
 use Rattle.prog.specs.Read.{true-inside, part-at}
 use Rattle.prog.specs.Run.{run-done, run-failed, run-got}
 use Rattle.prog.specs.Honest.{Honest, honest-done, honest-fetch, honest-pick}
 use Rattle.prog.specs.Counts.{Within, within-done, within-fetch, within-pick, within-tried}
 use Rattle.utf8.specs.Utf8.{isUtf8}
-use Rattle.text.specs.Text.{refused, bytesOf, hasNul, beforeNul, judged, chunksP, textP}
+use Rattle.text.specs.Text.{refused, bytesOf, partOf, hasNul, beforeNul, judged, chunksP, textP}
 use Rattle.text.specs.Nul.{by-test, clear-append, before-front, before-clear, before-shorter, before-nul, before-first}
 use Rattle.text.specs.declared.Text.{Text as Str}
 
@@ -98,6 +98,15 @@ module _ (x : List ℕ) (base pointer : ℕ) where
     pub chunks-next : hasNul (chunkAfter n) ≡ false → run (restP (suc left) n) x ≡ run (restP left (n + 64)) x
     unfolding chunksP
     chunks-next h = run-got x base (pointer + n) 64 (refused 2) _ e ∙ rw (chunk-here, h, first-more n 64, add-assoc pointer n 64)
+
+-- ---- a string's part of the image
+
+module _ (x : List ℕ) (t : Str) where
+  pub part-inside : t .offset + t .length ≤ length x → partOf x t ≡ bytesOf x t
+  part-inside h = rw (le-leb (t .offset + t .length) (length x) h)
+
+  pub part-outside : length x < t .offset + t .length → partOf x t ≡ []
+  part-outside h = rw (lt-leb (t .offset + t .length) (length x) h)
 
 -- ---- what an answer holds
 
@@ -186,3 +195,7 @@ module _ (x : List ℕ) (base pointer : ℕ) where
       by-test (eqb (t .number) 0)
       (λ e. let i = text-accepted (eqb-true (t .number) 0 e) in omega arith)
       (λ e. rw (text-refused (eqb-false (t .number) 0 e)) (omega arith))
+
+  -- so its bytes are what `string_part` hands back
+  pub text-part : partOf x (run (textP base pointer) x) ≡ bytesOf x (run (textP base pointer) x)
+  text-part = part-inside x (run (textP base pointer) x) text-inside

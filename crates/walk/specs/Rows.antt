@@ -5,6 +5,7 @@ use mathlib.Core.List.{List, [], _∷_, _++_, map}
 use lib.Dec.{ltb}
 use lib.ListN.{length, drop}
 use Rattle.text.specs.declared.Text.{Text}
+use Rattle.text.specs.Text.{refused}
 use Rattle.walk.specs.Walk.{Rom, RomSet, romsOf}
 
 -- the words of a set row, and of a ROM row
@@ -43,9 +44,10 @@ nameWords t = t .offset ∷ t .length ∷ t .number ∷ []
 unfoldable pub romRow : Rom → Text → List ℕ
 romRow r t = romFront r ++ nameWords t
 
+-- each ROM with its name; a name that the list lacks, as no opening gives it, counts as missing
 unfoldable pub romRows : List Rom → List Text → List ℕ
 romRows [] ts = []
-romRows (r ∷ rs) [] = []
+romRows (r ∷ rs) [] = romRow r (refused 1) ++ romRows rs []
 romRows (r ∷ rs) (t ∷ ts) = romRow r t ++ romRows rs ts
 
 -- "Walk": only a walk otherwise accepted gives 44: set rows short, then 45: ROM rows short. Short is counted in words.

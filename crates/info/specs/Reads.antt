@@ -1,0 +1,108 @@
+-- Document 01, "ROM data" and the byte reads.
+use Prim.Native.Nat.{ℕ, _+_}
+use mathlib.Core.Bool.{Bool, true, false, not, _||_}
+use mathlib.Core.List.{List, [], _∷_}
+use lib.Dec.{ltb, eqb}
+use lib.ListN.{length, getD}
+use Rattle.le.specs.Choice.{pick}
+use Rattle.prog.specs.Prog.{Prog, done, fetch, mapP, run}
+use Rattle.header.specs.Header.{baseAfter}
+use Rattle.types.specs.declared.SdrrCsSet.{SdrrCsSet}
+use Rattle.mangle.specs.declared.Mangled.{Mangled}
+use Rattle.mangle.specs.declared.Demangled.{Demangled}
+use Rattle.info.specs.declared.SdrrAddress.{SdrrAddress}
+use Rattle.info.specs.Lent.{Lent, setNumber, sizeOf, dataPointer, mangleAddress, demangleByte}
+
+-- ---- ROM data, the count, demangling: three definitions in a row
+
+-- a number, 0 where accepted, and the bytes
+pub record Bytes : Type 0 where
+  pub number : ℕ
+  pub bytes : List ℕ
+
+abbrev pub noBytes : ℕ → Bytes
+noBytes n = record { number = n; bytes = [] }
+
+-- 80: no such set. 4: its row. 81: offset plus length above set size. 2: ended.
+unfoldable pub dataP : ℕ → Lent → ℕ → ℕ → ℕ → Prog Bytes
+dataP base l set offset n =
+    pick (not (eqb (setNumber l set) 0)) (done (noBytes (setNumber l set)))
+    (pick (ltb (sizeOf l set) (offset + n)) (done (noBytes 81))
+    (fetch base (dataPointer l set + offset) n (noBytes 2) λ bs. done (record { number = 0; bytes = bs })))
+
+-- 82: the served count would pass 4,294,967,295
+unfoldable pub countNumber : ℕ → ℕ → ℕ
+countNumber count n = pick (ltb 4294967295 (count + n)) 82 0
+
+-- 70, 79; a raw byte skips demangling
+unfoldable pub shownByte : Lent → Bool → Bytes → Bytes
+shownByte l false b = b
+shownByte l true b =
+    pick (eqb (demangleByte l (getD (b .bytes) 0 0) .number) 0)
+    (record { number = 0; bytes = demangleByte l (getD (b .bytes) 0 0) .value ∷ [] })
+    (noBytes (demangleByte l (getD (b .bytes) 0 0) .number))
+
+-- ---- the reads
+
+-- a range of a set; or one byte of it, by its address, demangled or raw
+pub data RomRead : Type 0 where
+  range : (set offset n : ℕ) → RomRead
+  byte : (set : ℕ) → SdrrAddress → (demangled : Bool) → RomRead
+
+-- the length is the lent buffer's, 1 for a byte read
+abbrev pub lengthOf : RomRead → ℕ
+lengthOf (range set offset n) = n
+lengthOf (byte set a demangled) = 1
+
+-- a logical address runs mangling first; a raw address skips it
+abbrev pub physical : Lent → SdrrAddress → Mangled
+physical l (SdrrAddress.Raw offset) = record { number = 0; value = offset }
+physical l (SdrrAddress.Logical address levels) = mangleAddress l address levels
+
+abbrev pub byteP : ℕ → Lent → ℕ → Mangled → Prog Bytes
+byteP base l set m = pick (eqb (m .number) 0) (dataP base l set (m .value) 1) (done (noBytes (m .number)))
+
+-- the bytes from the image: mangling where the address is logical, then ROM data
+unfoldable pub storedP : ℕ → Lent → RomRead → Prog Bytes
+storedP base l (range set offset n) = dataP base l set offset n
+storedP base l (byte set a demangled) = byteP base l set (physical l a)
+
+-- then 82, then demangling
+abbrev pub shownOf : Lent → RomRead → Bytes → Bytes
+shownOf l (range set offset n) b = b
+shownOf l (byte set a demangled) b = shownByte l demangled b
+
+unfoldable pub finished : Lent → ℕ → RomRead → Bytes → Bytes
+finished l count r b =
+    pick (not (eqb (b .number) 0)) b (pick (not (eqb (countNumber count (lengthOf r)) 0)) (noBytes (countNumber count (lengthOf r))) (shownOf l r b))
+
+unfoldable pub readP : ℕ → Lent → ℕ → RomRead → Prog Bytes
+readP base l count r = mapP (finished l count r) (storedP base l r)
+
+-- ---- the call
+
+-- the reply: number, bytes, and the served count afterwards. A refused call counts nothing.
+pub record Reply : Type 0 where
+  pub number : ℕ
+  pub bytes : List ℕ
+  pub count : ℕ
+
+abbrev pub replyOf : ℕ → RomRead → Bytes → Reply
+replyOf count r b = record { number = b .number; bytes = b .bytes; count = pick (eqb (b .number) 0) (count + lengthOf r) count }
+
+-- 1: either base plus image length exceeds 2^32, before anything else
+unfoldable pub romRead : (flashBase cs0Base : ℕ) → Lent → ℕ → RomRead → List ℕ → Reply
+romRead flashBase cs0Base l count r x =
+    pick (ltb 4294967296 (flashBase + length x) || ltb 4294967296 (cs0Base + length x)) (record { number = 1; bytes = []; count = count })
+    (replyOf count r (run (readP (baseAfter flashBase cs0Base (l .line)) l count r) x))
+
+-- what the lent buffer holds afterwards: a refusal changes no byte
+abbrev pub bufferLeft : Reply → List ℕ → List ℕ
+bufferLeft r lent = pick (eqb (r .number) 0) (r .bytes) lent
+
+-- ---- a history: the served count after a list of reads, from the opening on
+
+unfoldable pub countAfter : (flashBase cs0Base : ℕ) → Lent → List ℕ → ℕ → List RomRead → ℕ
+countAfter flashBase cs0Base l x count [] = count
+countAfter flashBase cs0Base l x count (r ∷ rs) =
+    countAfter flashBase cs0Base l x (romRead flashBase cs0Base l count r x .count) rs

@@ -1,0 +1,48 @@
+-- Document 01, "Same set".
+use Prim.Native.Nat.{ℕ, zero, suc, pred, _+_, _*_}
+use mathlib.Core.Bool.{Bool, true, false, not, _&&_, _||_}
+use mathlib.Core.List.{List, [], _∷_}
+use lib.Dec.{ltb, leb, eqb}
+use lib.ListN.{length, drop}
+use Rattle.le.specs.Choice.{pick}
+use Rattle.walk.specs.Rows.{romWidth}
+use Rattle.info.specs.declared.Valued.{Valued}
+use Rattle.info.specs.Lent.{Lent, hasSetRow, firstRom, romCount, sizeOf, serveOf, unvalued}
+
+-- the types of the first n ROM rows of some words, as far as these go
+unfoldable pub typesIn : List ℕ → ℕ → List ℕ
+typesIn words zero = []
+typesIn [] (suc n) = []
+typesIn (t ∷ words) (suc n) = t ∷ typesIn (drop (pred romWidth) words) n
+
+-- the types of a set's ROM rows, in order
+abbrev pub types : Lent → ℕ → List ℕ
+types l i = typesIn (drop (romWidth * firstRom l i) (l .romWords)) (romCount l i)
+
+unfoldable pub anyAbove33 : List ℕ → Bool
+anyAbove33 [] = false
+anyAbove33 (t ∷ ts) = ltb 33 t || anyAbove33 ts
+
+-- 4: the set's row or one of its ROM rows isn't among those lent, or a type is above 33
+unfoldable pub badSet : Lent → ℕ → Bool
+badSet l i =
+    not (hasSetRow l i)
+    || (ltb 0 (romCount l i)
+    && (ltb (length (l .romWords)) (romWidth * (firstRom l i + romCount l i)) || anyAbove33 (types l i)))
+
+-- what two sets are compared by: size, ROM count, serve, every type in order
+unfoldable pub compared : Lent → ℕ → List ℕ
+compared l i = sizeOf l i ∷ romCount l i ∷ serveOf l i ∷ types l i
+
+unfoldable pub equal : List ℕ → List ℕ → Bool
+equal [] [] = true
+equal [] (b ∷ t) = false
+equal (a ∷ s) [] = false
+equal (a ∷ s) (b ∷ t) = eqb a b && equal s t
+
+-- 80: either is no set. 4: either set. Then yes (1) exactly if all that is compared agrees.
+unfoldable pub sameSet : Lent → ℕ → ℕ → Valued
+sameSet l a b =
+    pick (leb (l .served) a || leb (l .served) b) (unvalued 80)
+    (pick (badSet l a || badSet l b) (unvalued 4)
+    (record { number = 0; value = pick (equal (compared l a) (compared l b)) 1 0 }))

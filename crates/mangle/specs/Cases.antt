@@ -1,0 +1,99 @@
+-- Document 01, "Bench cases": D1, D2, M1 to M4, computed.
+use Prim.Native.Nat.{ℕ, _+_}
+use mathlib.Core.Path.{_≡_, refl}
+use mathlib.Core.List.{List, [], _∷_, _++_, map}
+use lib.ListN.{replicate}
+use Rattle.types.specs.Types.{isHigh, romTypeNumber}
+use Rattle.types.specs.declared.Level.{Level}
+use Rattle.types.specs.declared.SdrrMcuPort.{SdrrMcuPort}
+use Rattle.types.specs.declared.SdrrRomType.{SdrrRomType}
+use Rattle.types.specs.declared.SdrrCsSet.{SdrrCsSet}
+use Rattle.pins.specs.declared.SdrrPins.{SdrrPins}
+use Rattle.mangle.specs.declared.Mangled.{Mangled}
+use Rattle.mangle.specs.BaseZero.{leastOf, lowered, leastPin, loweredBy, baseZero}
+use Rattle.mangle.specs.Bits.{bitAt, taken, gather}
+use Rattle.mangle.specs.Demangle.{allBelow, demangle}
+use Rattle.mangle.specs.Mangle.{raised, inputWord, mangleNumber, mangleBy, mangleOf, mangleCore}
+use Rattle.mangle.specs.PinMap.{withAddress, xOff, xTaken, withX, controlOff, withControl, withControls, mapNumber, wholeMap, mapOf, pinMap}
+use Rattle.mangle.specs.Rules.{rulesOf, drives}
+
+-- data pins 7..0, byte 1
+pub D1 : demangle (7 ∷ 6 ∷ 5 ∷ 4 ∷ 3 ∷ 2 ∷ 1 ∷ 0 ∷ []) 1 ≡ record { number = 0; value = 128 }
+unfolding demangle allBelow gather taken bitAt
+D1 = refl
+
+-- a pin 8
+pub D2 : demangle (7 ∷ 6 ∷ 5 ∷ 8 ∷ 3 ∷ 2 ∷ 1 ∷ 0 ∷ []) 1 ≡ record { number = 79; value = 0 }
+unfolding demangle allBelow
+D2 = refl
+
+-- 24 pins, these address pins and CS1 to CS3, the others 255
+abbrev pub board : List ℕ → (cs1 cs2 cs3 : ℕ) → SdrrPins
+board address c1 c2 c3 =
+    record {
+      «data_port» = SdrrMcuPort.None;
+      «addr_port» = SdrrMcuPort.None;
+      «cs_port» = SdrrMcuPort.None;
+      «sel_port» = SdrrMcuPort.None;
+      «status_port» = SdrrMcuPort.None;
+      «rom_pins» = 24;
+      «data» = replicate 8 255;
+      addr = address;
+      cs1 = c1;
+      cs2 = c2;
+      cs3 = c3;
+      reserved2a = 255;
+      reserved2b = 255;
+      reserved2c = 255;
+      x1 = 255;
+      x2 = 255;
+      ce = 255;
+      oe = 255;
+      «x_jumper_pull» = 255;
+      «swclk_sel» = 255;
+      «swdio_sel» = 255;
+      sel0 = 255;
+      sel1 = 255;
+      sel2 = 255;
+      sel3 = 255;
+      sel4 = 255;
+      sel5 = 255;
+      sel6 = 255;
+      «sel_jumper_pull» = 255;
+      status = 255;
+      extended = 255;
+      data2 = replicate 8 255;
+      addr2 = replicate 16 255;
+    }
+
+-- pins 0..10
+abbrev eleven : List ℕ
+eleven = 0 ∷ 1 ∷ 2 ∷ 3 ∷ 4 ∷ 5 ∷ 6 ∷ 7 ∷ 8 ∷ 9 ∷ 10 ∷ []
+
+-- address pins 0..12 and CS1 13, each raised by k
+abbrev pub board2364 : ℕ → SdrrPins
+board2364 k = board (map (λ p. k + p) (eleven ++ (11 ∷ 12 ∷ [])) ++ replicate 3 255) (k + 13) 255 255
+
+-- CS1 and CS2 as given, the other levels not given
+abbrev pub given : Level → Level → SdrrCsSet
+given c1 c2 = record { cs1 = c1; cs2 = c2; cs3 = Level.NotGiven; x1 = Level.NotGiven; x2 = Level.NotGiven }
+
+-- address 5, CS1 high
+pub M1 : mangleCore (board2364 0) 1 SdrrRomType.Rom2364 5 (given Level.High Level.NotGiven) ≡ record { number = 0; value = 8197 }
+unfolding mangleCore mangleOf mangleBy mangleNumber inputWord raised drives rulesOf gather taken bitAt isHigh romTypeNumber pinMap mapOf mapNumber wholeMap xOff xTaken withX withAddress controlOff withControl withControls baseZero loweredBy leastPin leastOf lowered
+M1 = refl
+
+-- all those pins raised by 8
+pub M2 : mangleCore (board2364 8) 1 SdrrRomType.Rom2364 5 (given Level.High Level.NotGiven) ≡ record { number = 0; value = 8197 }
+unfolding mangleCore mangleOf mangleBy mangleNumber inputWord raised drives rulesOf gather taken bitAt isHigh romTypeNumber pinMap mapOf mapNumber wholeMap xOff xTaken withX withAddress controlOff withControl withControls baseZero loweredBy leastPin leastOf lowered
+M2 = refl
+
+-- address 8192
+pub M3 : mangleCore (board2364 0) 1 SdrrRomType.Rom2364 8192 (given Level.High Level.NotGiven) ≡ record { number = 77; value = 0 }
+unfolding mangleCore mangleOf mangleBy mangleNumber rulesOf pinMap mapOf mapNumber wholeMap xOff xTaken withX withAddress controlOff withControl withControls baseZero loweredBy leastPin leastOf lowered
+M3 = refl
+
+-- address pins 0..10, CS2 11, CS3 12, CS1 13: address 0, CS2 high alone
+pub M4 : mangleCore (board (eleven ++ replicate 5 255) 13 11 12) 1 SdrrRomType.Rom2316 0 (given Level.NotGiven Level.High) ≡ record { number = 0; value = 4096 }
+unfolding mangleCore mangleOf mangleBy mangleNumber inputWord raised drives rulesOf gather taken bitAt isHigh romTypeNumber pinMap mapOf mapNumber wholeMap xOff xTaken withX withAddress controlOff withControl withControls baseZero loweredBy leastPin leastOf lowered
+M4 = refl

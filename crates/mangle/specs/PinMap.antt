@@ -1,0 +1,87 @@
+-- Document 01, "Mangling": the sixteen-pin map, which says of each pin the input bit that it takes, and 72 to 76.
+use Prim.Native.Nat.{ℕ, suc}
+use mathlib.Core.Bool.{Bool, true, false, not, _&&_, _||_}
+use mathlib.Core.List.{List, [], _∷_}
+use lib.Dec.{leb, eqb}
+use lib.ListN.{getD, set}
+use Rattle.le.specs.Choice.{pick}
+use Rattle.types.specs.declared.SdrrRomType.{SdrrRomType}
+use Rattle.pins.specs.declared.SdrrPins.{SdrrPins}
+use Rattle.mangle.specs.declared.PinMap.{PinMap}
+use Rattle.mangle.specs.BaseZero.{baseZero}
+use Rattle.mangle.specs.Rules.{none, isBit, rulesOf, controlBits, several}
+
+-- sixteen pins that take nothing
+abbrev pub unmapped : List ℕ
+unmapped =
+    none ∷ none ∷ none ∷ none ∷ none ∷ none ∷ none ∷ none ∷ none ∷ none ∷ none ∷ none ∷ none ∷ none ∷ none ∷ none ∷ []
+
+-- address bits i, i + 1, .. each to its pin, a later one over an earlier; a pin at 16 or above is left out
+unfoldable pub withAddress : List ℕ → ℕ → List ℕ → List ℕ
+withAddress [] i m = m
+withAddress (p ∷ ps) i m = withAddress ps (suc i) (set m p i)
+
+abbrev pub addressMap : SdrrPins → List ℕ
+addressMap pins = withAddress (pins .addr) 0 unmapped
+
+abbrev pub off : ℕ → Bool
+off pin = leb 16 pin
+
+-- 72: X1 or X2 at 16 or above
+unfoldable pub xOff : SdrrPins → Bool
+xOff pins = off (pins .x1) || off (pins .x2)
+
+abbrev pub isMapped : List ℕ → ℕ → Bool
+isMapped m pin = isBit (getD m pin none)
+
+-- 73: X1 or X2 already mapped
+unfoldable pub xTaken : SdrrPins → List ℕ → Bool
+xTaken pins m = isMapped m (pins .x1) || isMapped m (pins .x2)
+
+-- X1 takes input bit 14, X2 takes 15; X2 wins where they are one pin
+unfoldable pub withX : SdrrPins → List ℕ → List ℕ
+withX pins m = set (set m (pins .x1) 14) (pins .x2) 15
+
+-- the control pins in the order of controlBits
+abbrev pub controlPins : SdrrPins → List ℕ
+controlPins pins = pins .cs1 ∷ pins .cs2 ∷ pins .cs3 ∷ pins .oe ∷ pins .ce ∷ []
+
+-- 76: a control pin that has an input bit, at 16 or above
+unfoldable pub controlOff : List ℕ → List ℕ → Bool
+controlOff [] bs = false
+controlOff (p ∷ ps) [] = false
+controlOff (p ∷ ps) (b ∷ bs) = (isBit b && off p) || controlOff ps bs
+
+-- a control pin that has an input bit takes it, whatever the pin took before
+unfoldable pub withControl : List ℕ → ℕ → ℕ → List ℕ
+withControl m pin bit = pick (isBit bit) (set m pin bit) m
+
+unfoldable pub withControls : List ℕ → List ℕ → List ℕ → List ℕ
+withControls [] bs m = m
+withControls (p ∷ ps) [] m = m
+withControls (p ∷ ps) (b ∷ bs) m = withControls ps bs (withControl m p b)
+
+-- 0 where none of 72 to 76 applies, else the first that does; the pins are counted from zero
+unfoldable pub mapNumber : SdrrPins → ℕ → SdrrRomType → ℕ
+mapNumber pins count type =
+    pick (several count && xOff pins) 72
+    (pick (several count && xTaken pins (addressMap pins)) 73
+    (pick (eqb count 0) 74
+    (pick (not (rulesOf type .supported)) 75
+    (pick (controlOff (controlPins pins) (controlBits type)) 76 0))))
+
+-- address, X1 and X2 with several ROMs, then the type's control pins
+unfoldable pub wholeMap : SdrrPins → ℕ → SdrrRomType → List ℕ
+wholeMap pins count type =
+    withControls (controlPins pins) (controlBits type) (pick (several count) (withX pins (addressMap pins)) (addressMap pins))
+
+unfoldable pub mapOf : SdrrPins → ℕ → SdrrRomType → PinMap
+mapOf pins count type =
+    record {
+      number = mapNumber pins count type;
+      map = pick (eqb (mapNumber pins count type) 0) (wholeMap pins count type) unmapped;
+    }
+
+-- the map of a pins record as it stands
+unfoldable pub pinMap : SdrrPins → ℕ → SdrrRomType → PinMap
+pinMap pins count type = mapOf (baseZero pins) count type

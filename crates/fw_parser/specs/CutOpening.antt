@@ -56,6 +56,10 @@ sets-number : (n : ℕ) (w : Part (List RomSet)) → Ended w → setsItem n w .n
 sets-number n (stop m passed) e = e
 sets-number n (found ss) e = absurd e
 
+sets-served : (n : ℕ) (w : Part (List RomSet)) → Ended w → setsItem n w .served ≡ 0
+sets-served n (stop m passed) e = refl
+sets-served n (found ss) e = absurd e
+
 module _ (h : SdrrInfoHeader) (t w : Row) where
   report-ended : EndedRow t → EndedReport (reportOf h (itemsOf t)) (itemsOf t .names)
   unfolding reportOf
@@ -78,7 +82,7 @@ module _ (h : SdrrInfoHeader) (t w : Row) where
         extra-info = c .1 .1 .0;
         metadata = ⊎-elim (λ (e : EndedLook (itemsOf t .metadata)). inl (metadata-ended (itemsOf t .metadata) e)) (λ (e : itemsOf t .metadata ≡ itemsOf w .metadata). inr (ap metadataItem e)) (c .1 .1 .1 .0);
         sets =
-            ⊎-elim (λ (e : EndedSets (itemsOf t .sets)). inl (sets-number (itemsOf t .sets .count) (itemsOf t .sets .walk) e))
+            ⊎-elim (λ (e : EndedSets (itemsOf t .sets)). inl (sets-number (itemsOf t .sets .count) (itemsOf t .sets .walk) e, sets-served (itemsOf t .sets .count) (itemsOf t .sets .walk) e))
             (λ (e : itemsOf t .sets ≡ itemsOf w .sets).
             inr (
               ap (λ (s : Sets). setsItem (s .count) (s .walk)) e,

@@ -33,7 +33,7 @@ EndedOpening (refused n) = n ≡ 2
 EndedOpening (opened r ss names) = EndedReport r names
 
 -- Every item that the first shows and that is not ended equals the second's. The header's fields, set count and sets pointer aside, are one
--- item more. The sets item holds the set count, the sets served and the rows without the names' words; a name holds those words.
+-- item more. Ended sets serve none. The sets item holds the set count, the sets served and the rows without the names' words; a name holds those words.
 pub record Kept (r : SdrrInfo) (ss : List RomSet) (names : List Text) (r′ : SdrrInfo) (ss′ : List RomSet) (names′ : List Text) : Type 0 where
   pub header : r .fields ≡ r′ .fields
   pub build-date : (r .«build_date» .number ≡ 2) ⊎ (r .«build_date» ≡ r′ .«build_date»)
@@ -41,7 +41,7 @@ pub record Kept (r : SdrrInfo) (ss : List RomSet) (names : List Text) (r′ : Sd
   pub extra-info : (r .«extra_info» .number ≡ 2) ⊎ (r .«extra_info» ≡ r′ .«extra_info»)
   pub metadata : (r .metadata ≡ MetadataItem.Looked 2) ⊎ (r .metadata ≡ r′ .metadata)
   pub sets :
-      (r .«rom_sets» .number ≡ 2)
+      ((r .«rom_sets» .number ≡ 2) × (r .«rom_sets» .served ≡ 0))
       ⊎ ((r .«rom_sets» ≡ r′ .«rom_sets»)
       × (setRows ss ≡ setRows ss′)
       × (map romFront (romsOf ss) ≡ map romFront (romsOf ss′)))

@@ -2,3 +2,4 @@ pub mod Walk
 pub mod Rows
 pub mod Names
 pub mod Laws
+pub mod RowLaws

@@ -3,7 +3,7 @@ use Prim.Native.Nat.{ℕ, _+_, _*_}
 use mathlib.Core.Bool.{Bool}
 use mathlib.Core.List.{List, [], _∷_, _++_, map}
 use lib.Dec.{ltb}
-use lib.ListN.{length, drop}
+use lib.ListN.{length, getD, drop}
 use Rattle.text.specs.declared.Text.{Text}
 use Rattle.text.specs.Text.{refused}
 use Rattle.walk.specs.Walk.{Rom, RomSet, romsOf}
@@ -47,8 +47,7 @@ romRow r t = romFront r ++ nameWords t
 -- each ROM with its name; a name that the list lacks, as no opening gives it, counts as missing
 unfoldable pub romRows : List Rom → List Text → List ℕ
 romRows [] ts = []
-romRows (r ∷ rs) [] = romRow r (refused 1) ++ romRows rs []
-romRows (r ∷ rs) (t ∷ ts) = romRow r t ++ romRows rs ts
+romRows (r ∷ rs) ts = romRow r (getD ts 0 (refused 1)) ++ romRows rs (drop 1 ts)
 
 -- "Walk": only a walk otherwise accepted gives 44: set rows short, then 45: ROM rows short. Short is counted in words.
 abbrev pub shortSets : List RomSet → ℕ → Bool

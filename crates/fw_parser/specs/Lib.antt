@@ -5,3 +5,4 @@ pub mod CutOpening
 pub mod FirstRead
 pub mod CutReads
 pub mod Demand3
+pub mod Items

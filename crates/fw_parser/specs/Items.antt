@@ -125,10 +125,10 @@ pub record ItemsOf (s : Settings) (x : List ℕ) (r : SdrrInfo) (ss : List RomSe
   pub pins : run (itemP s pinsItemP) x ≡ behind (r .pins)
 
 module _ (s : Settings) (x : List ℕ) where
-  header : HeaderAnswer
+  pub header : HeaderAnswer
   header = run (headerP (s .«flash_base») (s .«info_offset»)) x
 
-  base : ℕ
+  pub base : ℕ
   base = baseAfter (s .«flash_base») (s .«cs0_base») (header .header .fields .«stm_line»)
 
   -- an item behind an accepted header
@@ -177,3 +177,14 @@ module _ (s : Settings) (x : List ℕ) where
         names-read = item-run namesBehindP (a .0) ∙ ap behind (p .names ∙ v .2);
         pins = item-run pinsItemP (a .0) ∙ ap behind (p .pins ∙ ap (λ (i : SdrrInfo). i .pins) (v .0));
       }
+
+  -- the sets that an opened image was walked for
+  pub opened-sets : (n m : ℕ) (r : SdrrInfo) (ss : List RomSet) (names : List Text) → run (openP s n m) x ≡ opened r ss names
+      → (t : Sets) × (run (setsP base (header .header) (run (lookP base (header .header)) x)) x ≡ t) × (setsItem (t .count) (t .walk) ≡ r .«rom_sets») × (setsOf (t .walk) ≡ ss)
+  unfolding reportOf
+  opened-sets n m r ss names e =
+      let h = header .header in
+      let a = accepted-header n m r ss names (sym (open-run n m) ∙ e) in
+      let v = let-through n m h (itemsOf (run (rowP base h) x)) r ss names (a .1) in
+      let p = row-parts base h x in
+      (itemsOf (run (rowP base h) x) .sets, sym (run-bind x (lookP base h) (λ l. setsP base h l)) ∙ p .sets, ap (λ (i : SdrrInfo). i .«rom_sets») (v .0), v .1)

@@ -6,3 +6,4 @@ pub mod FirstRead
 pub mod CutReads
 pub mod Demand3
 pub mod Items
+pub mod Sanity

@@ -1,16 +1,18 @@
--- A failed read of the walk is number 2.
+-- A failed read of the walk is number 2, and no name of a refused walk is shown.
 -- Assumes nothing.
 use Prim.Native.Nat.{ℕ, zero, suc, _+_}
-use mathlib.Core.Path.{_≡_, refl}
+use native.Mathlib.Nat.{add-zero}
+use mathlib.Core.Path.{_≡_, refl, _∙_}
 use mathlib.Core.Bool.{Bool}
 use mathlib.Core.List.{List, [], _∷_, _++_}
 use lib.Dec.{ltb, eqb}
 use Rattle.le.specs.Choice.{pick}
-use Rattle.prog.specs.Prog.{Prog, done, run, _>>=_}
-use Rattle.prog.specs.Run.{run-done}
+use Rattle.prog.specs.Prog.{Prog, done, run, trace, tried, triedShown, _>>=_}
+use Rattle.prog.specs.Run.{run-done, trace-done, tried-done, shown-done, run-aside, trace-aside, shown-aside, tried-aside}
 use Rattle.prog.specs.Honest.{Honest, honest-done, honest-fetch, honest-pick, honest-bind}
 use Rattle.header.specs.declared.SdrrInfoFields.{SdrrInfoFields}
 use Rattle.walk.specs.Walk.{Rom, RomSet, Part, stop, found, orStop, romP, romsP, tableP, pointedP, setP, setsP, walkP}
+use Rattle.walk.specs.Names.{namesP, walkNamesP}
 
 -- 01 coins "ended" ("Window"): number 2
 abbrev pub Ended : {A : Type 0} → Part A → Type 0
@@ -64,3 +66,22 @@ sets-honest (suc left) base f address passed =
 pub walk-honest : (base : ℕ) (f : SdrrInfoFields) (count pointer : ℕ) → Honest Ended (walkP base f count pointer)
 unfolding walkP
 walk-honest base f count pointer = search (forms, sets-honest) depth 9
+
+-- ---- the names of a refused walk: read, and not shown
+
+module _ (base n : ℕ) (passed : List Rom) (x : List ℕ) where
+  pub no-name-shown : run (walkNamesP base (stop n passed)) x ≡ []
+  unfolding walkNamesP
+  no-name-shown = run-aside x (namesP base passed) (done []) ∙ run-done x []
+
+  pub no-name-taken : trace (walkNamesP base (stop n passed)) x ≡ []
+  unfolding walkNamesP
+  no-name-taken = trace-aside x (namesP base passed) (done []) ∙ trace-done x _
+
+  pub no-name-counted : triedShown (walkNamesP base (stop n passed)) x ≡ 0
+  unfolding walkNamesP
+  no-name-counted = shown-aside x (namesP base passed) (done []) ∙ shown-done x _
+
+  pub names-tried : tried (walkNamesP base (stop n passed)) x ≡ tried (namesP base passed) x
+  unfolding walkNamesP
+  names-tried = tried-aside x (namesP base passed) (done []) ∙ rw (tried-done x _) (add-zero (tried (namesP base passed) x))

@@ -3,3 +3,4 @@ pub mod Rows
 pub mod Names
 pub mod Laws
 pub mod RowLaws
+pub mod Found

@@ -1,11 +1,11 @@
--- Rows written are exactly 8 words a set and 7 a ROM, and a ROM row's type does not depend on the names.
+-- Rows written are exactly 8 words a set and 7 a ROM; a ROM row's type does not depend on the names; the first ROM row is a sum.
 -- Assumes nothing.
-use Prim.Native.Nat.{ℕ, zero, suc, _+_, _*_}
+use Prim.Native.Nat.{ℕ, zero, suc, _+_, _*_, _<_}
 use native.Mathlib.Omega.{arith}
-use native.Mathlib.Nat.{mul-suc, mul-zero}
+use native.Mathlib.Nat.{mul-suc, mul-zero, not-suc-le-zero, le-of-suc-le-suc}
 use mathlib.Core.Path.{_≡_, refl, sym, ap, _∙_}
-use mathlib.Core.List.{List, [], _∷_, _++_, map, append-assoc}
-use lib.ListN.{length, getD, drop, length-append, length-drop}
+use mathlib.Core.List.{List, [], _∷_, _++_, map, append-assoc, append-nil}
+use lib.ListN.{length, getD, take, drop, length-append}
 use lib.Seq.{getD-append-add}
 use Rattle.text.specs.declared.Text.{Text}
 use Rattle.text.specs.Text.{refused}
@@ -67,3 +67,23 @@ type-words (r ∷ rs) (s ∷ ss) ts us rest e (suc i) =
     (type-later r (getD ts 0 (refused 1)) (romRows rs (drop 1 ts) ++ rest) i
     ∙ type-words rs ss (drop 1 ts) (drop 1 us) rest f i
     ∙ sym (type-later s (getD us 0 (refused 1)) (romRows ss (drop 1 us) ++ rest) i))
+
+-- ---- the first ROM row of a set is the sum of the earlier sets' counts
+
+first-later : (first : ℕ) (s : RomSet) (rest : List ℕ) (i : ℕ) → getD (setRow first s ++ rest) (setWidth * suc i + 2) 0 ≡ getD rest (setWidth * i + 2) 0
+first-later first s rest i =
+    ap (λ (n : ℕ). getD (setRow first s ++ rest) n 0)
+    (let a = set-row-length first s in let b = mul-suc setWidth i in let e : setWidth * suc i + 2 ≡ length (setRow first s) + (setWidth * i + 2) = omega arith in e)
+    ∙ getD-append-add (setRow first s) rest (setWidth * i + 2) 0
+
+first-from : (earlier ss : List RomSet) (i : ℕ) → i < length ss → getD (setRowsAfter earlier ss) (setWidth * i + 2) 0 ≡ countsOf (earlier ++ take i ss)
+unfolding setRowsAfter setRow
+first-from earlier [] i l = absurd (not-suc-le-zero l)
+first-from earlier (s ∷ ss) zero l = rw (append-nil earlier) refl
+first-from earlier (s ∷ ss) (suc i) l =
+    first-later (countsOf earlier) s (setRowsAfter (earlier ++ (s ∷ [])) ss) i
+    ∙ first-from (earlier ++ (s ∷ [])) ss i (le-of-suc-le-suc l)
+    ∙ ap countsOf (append-assoc earlier (s ∷ []) (take i ss))
+
+pub first-rom-row : (ss : List RomSet) (i : ℕ) → i < length ss → getD (setRows ss) (setWidth * i + 2) 0 ≡ countsOf (take i ss)
+first-rom-row ss i l = first-from [] ss i l

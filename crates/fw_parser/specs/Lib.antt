@@ -7,3 +7,4 @@ pub mod CutReads
 pub mod Demand3
 pub mod Items
 pub mod Sanity
+pub mod Boards

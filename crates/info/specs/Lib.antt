@@ -2,3 +2,4 @@ pub mod Lent
 pub mod Reads
 pub mod Same
 pub mod Like
+pub mod History

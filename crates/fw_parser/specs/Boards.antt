@@ -1,0 +1,312 @@
+-- Two small whole boards: the definition gives the report and rows that document 01 says, by computation, and so of a cut of each.
+-- tests/model/boards.py has the images field by field.
+-- Assumes nothing.
+use Prim.Native.Nat.{ℕ}
+use mathlib.Core.Path.{_≡_, refl}
+use mathlib.Core.Bool.{true, false}
+use mathlib.Core.List.{List, [], _∷_}
+use lib.ListN.{take, replicate}
+use Rattle.le.specs.Le.{startsWith}
+use Rattle.prog.specs.Prog.{run, trace, endOf, canRead, answer, reach, tried, triedShown, readsOf, andThen, looked}
+use Rattle.utf8.specs.Utf8.{classOf, lowAfter, highAfter, lacking, isUtf8}
+use Rattle.types.specs.declared.McuLine.{McuLine}
+use Rattle.types.specs.declared.McuStorage.{McuStorage}
+use Rattle.types.specs.declared.SdrrMcuPort.{SdrrMcuPort}
+use Rattle.types.specs.Types.{lineOf, isRp2350, storageOf, portOf}
+use Rattle.text.specs.Text.{hasNul, beforeNul, judged, chunksP, textP, accepted}
+use Rattle.header.specs.Version.{version, before}
+use Rattle.header.specs.Header.{fieldsOf, wholeOf, headerOf, headerP}
+use Rattle.extra_info.specs.declared.FirePioDefault.{FirePioDefault}
+use Rattle.extra_info.specs.ExtraInfo.{noExtraInfo, extraInfoOf, extraInfoP}
+use Rattle.extra_info.specs.ExtraInfo as E
+use Rattle.metadata.specs.declared.MetadataItem.{MetadataItem}
+use Rattle.metadata.specs.Metadata.{metadataOf, metadataP}
+use Rattle.pins.specs.declared.SdrrPins.{SdrrPins}
+use Rattle.pins.specs.declared.PinsItem.{PinsItem}
+use Rattle.pins.specs.Pins.{noPins, pinsOf, pinsP}
+use Rattle.pins.specs.Pins as P
+use Rattle.walk.specs.Walk.{romOf, judgeRom, romP, romsP, tableP, pointedP, setP, setsP, walkP, romsOf}
+use Rattle.walk.specs.Names.{nameP, namesP, walkNamesP}
+use Rattle.walk.specs.Rows.{setRow, countsOf, setRowsAfter, romFront, nameWords, romRow, romRows}
+use Rattle.fw_parser.specs.declared.Settings.{Settings}
+use Rattle.fw_parser.specs.declared.SdrrInfo.{SdrrInfo}
+use Rattle.fw_parser.specs.Opening.{lookP, rowP, reportOf, verdict, openP, opening, Opened, refused, opened, setRowsLeft, romRowsLeft}
+use Rattle.fw_parser.specs.Opening as O
+
+-- what a caller sees: a refusal's number, or the report and both row buffers
+data Seen : Type 0 where
+  closed : ℕ → Seen
+  shows : SdrrInfo → List ℕ → List ℕ → Seen
+
+abbrev seenOf : Opened → List ℕ → List ℕ → Seen
+seenOf (refused n) sets roms = closed n
+seenOf (opened r ss names) sets roms = shows r (setRowsLeft (opened r ss names) sets) (romRowsLeft (opened r ss names) roms)
+
+-- lent rows of zeros
+abbrev seen : Settings → ℕ → ℕ → List ℕ → Seen
+seen s n m x = seenOf (opening s n m x) (replicate n 0) (replicate m 0)
+
+-- ---- 0.4.2 on an STM32, one set with one ROM
+
+oldImage : List ℕ
+oldImage =
+    83 ∷ 68 ∷ 82 ∷ 82 ∷ 0 ∷ 0 ∷ 4 ∷ 0 ∷ 2 ∷ 0 ∷ 7 ∷ 0 ∷ 64 ∷ 0 ∷ 0 ∷ 8 ∷ 48 ∷ 48 ∷ 97 ∷ 98 ∷ 99 ∷ 100 ∷ 101 ∷ 102 ∷ 68 ∷ 0 ∷ 0 ∷ 8 ∷ 1 ∷ 0 ∷
+    2 ∷ 0 ∷ 84 ∷ 0 ∷ 0 ∷ 1 ∷ 0 ∷ 0 ∷ 1 ∷ 0 ∷ 0 ∷ 1 ∷ 1 ∷ 0 ∷ 64 ∷ 1 ∷ 0 ∷ 8 ∷ 144 ∷ 1 ∷ 0 ∷ 8 ∷ 1 ∷ 2 ∷ 3 ∷ 4 ∷ 64 ∷ 0 ∷ 0 ∷ 8 ∷ 255 ∷ 255 ∷
+    255 ∷ 255 ∷ 77 ∷ 97 ∷ 121 ∷ 0 ∷ 50 ∷ 52 ∷ 45 ∷ 100 ∷ 0 ∷ 0 ∷ 0 ∷ 0 ∷ 0 ∷ 0 ∷ 0 ∷ 0 ∷ 0 ∷ 0 ∷ 0 ∷ 0 ∷ 0 ∷ 0 ∷ 0 ∷ 0 ∷ 0 ∷ 0 ∷ 0 ∷ 0 ∷ 0 ∷
+    0 ∷ 0 ∷ 0 ∷ 0 ∷ 0 ∷ 0 ∷ 0 ∷ 0 ∷ 0 ∷ 0 ∷ 0 ∷ 0 ∷ 0 ∷ 0 ∷ 0 ∷ 0 ∷ 0 ∷ 0 ∷ 0 ∷ 0 ∷ 0 ∷ 0 ∷ 0 ∷ 0 ∷ 0 ∷ 0 ∷ 0 ∷ 0 ∷ 0 ∷ 0 ∷ 0 ∷ 0 ∷ 0 ∷ 0 ∷
+    0 ∷ 0 ∷ 0 ∷ 0 ∷ 0 ∷ 0 ∷ 0 ∷ 0 ∷ 0 ∷ 0 ∷ 0 ∷ 0 ∷ 0 ∷ 0 ∷ 0 ∷ 0 ∷ 0 ∷ 0 ∷ 0 ∷ 0 ∷ 0 ∷ 0 ∷ 0 ∷ 0 ∷ 0 ∷ 0 ∷ 0 ∷ 0 ∷ 0 ∷ 0 ∷ 0 ∷ 0 ∷ 0 ∷ 0 ∷
+    0 ∷ 0 ∷ 0 ∷ 0 ∷ 0 ∷ 0 ∷ 0 ∷ 0 ∷ 0 ∷ 0 ∷ 0 ∷ 0 ∷ 0 ∷ 0 ∷ 0 ∷ 0 ∷ 0 ∷ 0 ∷ 0 ∷ 0 ∷ 0 ∷ 0 ∷ 0 ∷ 0 ∷ 0 ∷ 0 ∷ 0 ∷ 0 ∷ 0 ∷ 0 ∷ 0 ∷ 0 ∷ 0 ∷ 0 ∷
+    0 ∷ 0 ∷ 0 ∷ 0 ∷ 0 ∷ 0 ∷ 0 ∷ 0 ∷ 0 ∷ 0 ∷ 0 ∷ 0 ∷ 0 ∷ 0 ∷ 0 ∷ 0 ∷ 0 ∷ 0 ∷ 0 ∷ 0 ∷ 0 ∷ 0 ∷ 0 ∷ 0 ∷ 0 ∷ 0 ∷ 0 ∷ 0 ∷ 0 ∷ 0 ∷ 0 ∷ 0 ∷ 0 ∷ 0 ∷
+    0 ∷ 0 ∷ 0 ∷ 0 ∷ 0 ∷ 0 ∷ 0 ∷ 0 ∷ 0 ∷ 0 ∷ 0 ∷ 0 ∷ 0 ∷ 0 ∷ 0 ∷ 0 ∷ 0 ∷ 0 ∷ 0 ∷ 0 ∷ 0 ∷ 0 ∷ 0 ∷ 0 ∷ 0 ∷ 0 ∷ 0 ∷ 0 ∷ 0 ∷ 0 ∷ 0 ∷ 0 ∷ 0 ∷ 0 ∷
+    0 ∷ 0 ∷ 0 ∷ 0 ∷ 0 ∷ 0 ∷ 0 ∷ 0 ∷ 0 ∷ 0 ∷ 0 ∷ 0 ∷ 0 ∷ 0 ∷ 0 ∷ 0 ∷ 0 ∷ 0 ∷ 0 ∷ 0 ∷ 0 ∷ 0 ∷ 0 ∷ 0 ∷ 0 ∷ 0 ∷ 0 ∷ 0 ∷ 0 ∷ 0 ∷ 0 ∷ 0 ∷ 0 ∷ 0 ∷
+    0 ∷ 0 ∷ 0 ∷ 0 ∷ 0 ∷ 0 ∷ 0 ∷ 0 ∷ 0 ∷ 0 ∷ 0 ∷ 0 ∷ 0 ∷ 0 ∷ 0 ∷ 0 ∷ 0 ∷ 0 ∷ 0 ∷ 0 ∷ 0 ∷ 0 ∷ 0 ∷ 0 ∷ 1 ∷ 0 ∷ 8 ∷ 0 ∷ 64 ∷ 0 ∷ 0 ∷ 128 ∷ 1 ∷
+    0 ∷ 8 ∷ 1 ∷ 1 ∷ 2 ∷ 0 ∷ 0 ∷ 0 ∷ 0 ∷ 0 ∷ 0 ∷ 0 ∷ 0 ∷ 0 ∷ 0 ∷ 0 ∷ 0 ∷ 0 ∷ 0 ∷ 0 ∷ 0 ∷ 0 ∷ 0 ∷ 0 ∷ 0 ∷ 0 ∷ 0 ∷ 0 ∷ 0 ∷ 0 ∷ 0 ∷ 0 ∷ 0 ∷ 0 ∷
+    0 ∷ 0 ∷ 0 ∷ 0 ∷ 0 ∷ 0 ∷ 0 ∷ 0 ∷ 0 ∷ 0 ∷ 0 ∷ 0 ∷ 0 ∷ 0 ∷ 0 ∷ 0 ∷ 0 ∷ 0 ∷ 0 ∷ 0 ∷ 132 ∷ 1 ∷ 0 ∷ 8 ∷ 2 ∷ 0 ∷ 2 ∷ 2 ∷ 0 ∷ 0 ∷ 0 ∷ 0 ∷ 0 ∷
+    0 ∷ 0 ∷ 0 ∷ 1 ∷ 2 ∷ 2 ∷ 3 ∷ 4 ∷ 24 ∷ 0 ∷ 0 ∷ 7 ∷ 6 ∷ 5 ∷ 4 ∷ 3 ∷ 2 ∷ 1 ∷ 0 ∷ 0 ∷ 1 ∷ 2 ∷ 3 ∷ 4 ∷ 5 ∷ 6 ∷ 7 ∷ 8 ∷ 9 ∷ 10 ∷ 11 ∷ 12 ∷
+    255 ∷ 255 ∷ 255 ∷ 0 ∷ 0 ∷ 0 ∷ 0 ∷ 13 ∷ 255 ∷ 255 ∷ 0 ∷ 0 ∷ 0 ∷ 255 ∷ 255 ∷ 255 ∷ 255 ∷ 0 ∷ 0 ∷ 0 ∷ 0 ∷ 0 ∷ 0 ∷ 0 ∷ 0 ∷ 0 ∷ 0 ∷ 0 ∷ 0 ∷
+    0 ∷ 0 ∷ 0 ∷ 0 ∷ 0 ∷ 0 ∷ 0 ∷ 0 ∷ 0 ∷ 0 ∷ 0 ∷ 0 ∷ 0 ∷ 0 ∷ 0 ∷ 0 ∷ 0 ∷ 0 ∷ 0 ∷ 0 ∷ 0 ∷ 0 ∷ 0 ∷ 0 ∷ 0 ∷ 0 ∷ 0 ∷ 0 ∷ 0 ∷ 0 ∷ []
+
+abbrev stm : Settings
+stm = record { «flash_base» = 134217728; «cs0_base» = 268435456; «info_offset» = 0 }
+
+abbrev oldPins : SdrrPins
+oldPins =
+    record {
+      «data_port» = SdrrMcuPort.PortA;
+      «addr_port» = SdrrMcuPort.PortB;
+      «cs_port» = SdrrMcuPort.PortB;
+      «sel_port» = SdrrMcuPort.PortC;
+      «status_port» = SdrrMcuPort.PortD;
+      «rom_pins» = 24;
+      «data» = 7 ∷ 6 ∷ 5 ∷ 4 ∷ 3 ∷ 2 ∷ 1 ∷ 0 ∷ [];
+      addr = 0 ∷ 1 ∷ 2 ∷ 3 ∷ 4 ∷ 5 ∷ 6 ∷ 7 ∷ 8 ∷ 9 ∷ 10 ∷ 11 ∷ 12 ∷ 255 ∷ 255 ∷ 255 ∷ [];
+      cs1 = 13;
+      cs2 = 255;
+      cs3 = 255;
+      reserved2a = 0;
+      reserved2b = 0;
+      reserved2c = 0;
+      x1 = 255;
+      x2 = 255;
+      ce = 255;
+      oe = 255;
+      «x_jumper_pull» = 0;
+      «swclk_sel» = 0;
+      «swdio_sel» = 0;
+      sel0 = 0;
+      sel1 = 0;
+      sel2 = 0;
+      sel3 = 0;
+      sel4 = 0;
+      sel5 = 0;
+      sel6 = 0;
+      «sel_jumper_pull» = 0;
+      status = 0;
+      extended = 0;
+      data2 = 0 ∷ 0 ∷ 0 ∷ 0 ∷ 0 ∷ 0 ∷ 0 ∷ 0 ∷ [];
+      addr2 = 0 ∷ 0 ∷ 0 ∷ 0 ∷ 0 ∷ 0 ∷ 0 ∷ 0 ∷ 0 ∷ 0 ∷ 0 ∷ 0 ∷ 0 ∷ 0 ∷ 0 ∷ 0 ∷ [];
+    }
+
+-- extra info lies over the strings; its USB port, 52, is none
+abbrev oldReport : PinsItem → SdrrInfo
+oldReport pins =
+    record {
+      fields = record {
+        version = version 0 4 2 7;
+        commit = 48 ∷ 48 ∷ 97 ∷ 98 ∷ 99 ∷ 100 ∷ 101 ∷ 102 ∷ [];
+        «stm_line» = McuLine.F405;
+        «stm_storage» = McuStorage.StorageC;
+        freq = 84;
+        overclock = false;
+        «swd_enabled» = true;
+        «preload_image_to_ram» = false;
+        «bootloader_capable» = false;
+        «status_led_enabled» = true;
+        «boot_logging_enabled» = false;
+        «mco_enabled» = false;
+        «count_rom_access» = true;
+        «boot_config» = 1 ∷ 2 ∷ 3 ∷ 4 ∷ [];
+      };
+      «build_date» = accepted 64 3;
+      «hw_rev» = accepted 68 4;
+      «extra_info» = record {
+        number = 0;
+        «extra_info» = record {
+          «rtt_ptr» = 7954765;
+          «usb_dfu» = true;
+          «usb_port» = SdrrMcuPort.None;
+          «vbus_pin» = 45;
+          «fire_pio_default» = FirePioDefault.NotGiven;
+          «runtime_info_ptr» = 0;
+        };
+      };
+      metadata = MetadataItem.NotLookedFor;
+      «rom_sets» = record { number = 0; «rom_set_count» = 1; served = 1 };
+      pins = pins;
+    }
+
+abbrev oldSetRow : List ℕ
+oldSetRow = 134217984 ∷ 16384 ∷ 0 ∷ 1 ∷ 1 ∷ 2 ∷ 0 ∷ 0 ∷ []
+
+abbrev oldRomRow : List ℕ
+oldRomRow = 2 ∷ 0 ∷ 2 ∷ 2 ∷ 0 ∷ 0 ∷ 1 ∷ []
+
+old-board : seen stm 8 7 oldImage ≡ shows (oldReport (record { number = 0; pins = oldPins })) oldSetRow oldRomRow
+unfolding startsWith run trace endOf canRead answer tried triedShown readsOf andThen looked classOf lowAfter highAfter lacking isUtf8 lineOf isRp2350 storageOf portOf hasNul beforeNul judged chunksP textP before fieldsOf wholeOf headerOf headerP E.fieldsOf noExtraInfo extraInfoOf extraInfoP metadataOf metadataP P.fieldsOf noPins pinsOf pinsP romOf judgeRom romP romsP tableP pointedP setP setsP O.setsP walkP romsOf nameP namesP walkNamesP setRow countsOf setRowsAfter romFront nameWords romRow romRows lookP rowP reportOf verdict openP opening oldImage
+old-board = refl
+
+-- every read: header, date, revision, extra info, set, ROM pointer, ROM info, pins
+old-reads : tried (openP stm 8 7) oldImage ≡ 8
+unfolding startsWith run trace endOf canRead answer tried triedShown readsOf andThen looked classOf lowAfter highAfter lacking isUtf8 lineOf isRp2350 storageOf portOf hasNul beforeNul judged chunksP textP before fieldsOf wholeOf headerOf headerP E.fieldsOf noExtraInfo extraInfoOf extraInfoP metadataOf metadataP P.fieldsOf noPins pinsOf pinsP romOf judgeRom romP romsP tableP pointedP setP setsP O.setsP walkP romsOf nameP namesP walkNamesP setRow countsOf setRowsAfter romFront nameWords romRow romRows lookP rowP reportOf verdict openP opening oldImage
+old-reads = refl
+
+old-reach : reach (openP stm 8 7) oldImage ≡ 488
+unfolding startsWith run trace endOf canRead answer tried triedShown readsOf andThen looked classOf lowAfter highAfter lacking isUtf8 lineOf isRp2350 storageOf portOf hasNul beforeNul judged chunksP textP before fieldsOf wholeOf headerOf headerP E.fieldsOf noExtraInfo extraInfoOf extraInfoP metadataOf metadataP P.fieldsOf noPins pinsOf pinsP romOf judgeRom romP romsP tableP pointedP setP setsP O.setsP walkP romsOf nameP namesP walkNamesP setRow countsOf setRowsAfter romFront nameWords romRow romRows lookP rowP reportOf verdict openP opening oldImage
+old-reach = refl
+
+-- one byte less, and the pins are ended
+old-cut : seen stm 8 7 (take 487 oldImage) ≡ shows (oldReport (P.refused 2)) oldSetRow oldRomRow
+unfolding startsWith run trace endOf canRead answer tried triedShown readsOf andThen looked classOf lowAfter highAfter lacking isUtf8 lineOf isRp2350 storageOf portOf hasNul beforeNul judged chunksP textP before fieldsOf wholeOf headerOf headerP E.fieldsOf noExtraInfo extraInfoOf extraInfoP metadataOf metadataP P.fieldsOf noPins pinsOf pinsP romOf judgeRom romP romsP tableP pointedP setP setsP O.setsP walkP romsOf nameP namesP walkNamesP setRow countsOf setRowsAfter romFront nameWords romRow romRows lookP rowP reportOf verdict openP opening oldImage
+old-cut = refl
+
+-- a row short: 45; no row at all: 44
+old-short : seen stm 8 6 oldImage ≡ closed 45
+unfolding startsWith run trace endOf canRead answer tried triedShown readsOf andThen looked classOf lowAfter highAfter lacking isUtf8 lineOf isRp2350 storageOf portOf hasNul beforeNul judged chunksP textP before fieldsOf wholeOf headerOf headerP E.fieldsOf noExtraInfo extraInfoOf extraInfoP metadataOf metadataP P.fieldsOf noPins pinsOf pinsP romOf judgeRom romP romsP tableP pointedP setP setsP O.setsP walkP romsOf nameP namesP walkNamesP setRow countsOf setRowsAfter romFront nameWords romRow romRows lookP rowP reportOf verdict openP opening oldImage
+old-short = refl
+
+old-none : seen stm 0 0 oldImage ≡ closed 44
+unfolding startsWith run trace endOf canRead answer tried triedShown readsOf andThen looked classOf lowAfter highAfter lacking isUtf8 lineOf isRp2350 storageOf portOf hasNul beforeNul judged chunksP textP before fieldsOf wholeOf headerOf headerP E.fieldsOf noExtraInfo extraInfoOf extraInfoP metadataOf metadataP P.fieldsOf noPins pinsOf pinsP romOf judgeRom romP romsP tableP pointedP setP setsP O.setsP walkP romsOf nameP namesP walkNamesP setRow countsOf setRowsAfter romFront nameWords romRow romRows lookP rowP reportOf verdict openP opening oldImage
+old-none = refl
+
+-- ---- 0.6.1 on an Rp2350, two sets, three ROMs, of which two have the same name
+
+newImage : List ℕ
+newImage =
+    83 ∷ 68 ∷ 82 ∷ 82 ∷ 0 ∷ 0 ∷ 6 ∷ 0 ∷ 1 ∷ 0 ∷ 0 ∷ 0 ∷ 64 ∷ 0 ∷ 0 ∷ 16 ∷ 48 ∷ 48 ∷ 97 ∷ 98 ∷ 99 ∷ 100 ∷ 101 ∷ 102 ∷ 70 ∷ 0 ∷ 0 ∷ 16 ∷ 5 ∷
+    0 ∷ 7 ∷ 0 ∷ 150 ∷ 0 ∷ 1 ∷ 0 ∷ 0 ∷ 0 ∷ 1 ∷ 1 ∷ 0 ∷ 9 ∷ 0 ∷ 0 ∷ 128 ∷ 0 ∷ 0 ∷ 16 ∷ 248 ∷ 2 ∷ 0 ∷ 16 ∷ 1 ∷ 2 ∷ 3 ∷ 4 ∷ 128 ∷ 1 ∷ 0 ∷ 16 ∷
+    255 ∷ 255 ∷ 255 ∷ 255 ∷ 74 ∷ 117 ∷ 110 ∷ 101 ∷ 33 ∷ 0 ∷ 102 ∷ 105 ∷ 114 ∷ 101 ∷ 45 ∷ 50 ∷ 52 ∷ 0 ∷ 0 ∷ 0 ∷ 0 ∷ 0 ∷ 0 ∷ 0 ∷ 0 ∷ 0 ∷ 0 ∷
+    0 ∷ 0 ∷ 0 ∷ 0 ∷ 0 ∷ 0 ∷ 0 ∷ 0 ∷ 0 ∷ 0 ∷ 0 ∷ 0 ∷ 0 ∷ 0 ∷ 0 ∷ 0 ∷ 0 ∷ 0 ∷ 0 ∷ 0 ∷ 0 ∷ 0 ∷ 0 ∷ 0 ∷ 0 ∷ 0 ∷ 0 ∷ 0 ∷ 0 ∷ 0 ∷ 0 ∷ 0 ∷ 0 ∷ 0 ∷
+    0 ∷ 0 ∷ 0 ∷ 0 ∷ 0 ∷ 0 ∷ 0 ∷ 79 ∷ 78 ∷ 69 ∷ 82 ∷ 79 ∷ 77 ∷ 95 ∷ 77 ∷ 69 ∷ 84 ∷ 65 ∷ 68 ∷ 65 ∷ 84 ∷ 65 ∷ 0 ∷ 1 ∷ 0 ∷ 0 ∷ 0 ∷ 2 ∷ 0 ∷ 0 ∷
+    0 ∷ 128 ∷ 2 ∷ 0 ∷ 16 ∷ 0 ∷ 0 ∷ 0 ∷ 0 ∷ 0 ∷ 0 ∷ 0 ∷ 0 ∷ 0 ∷ 0 ∷ 0 ∷ 0 ∷ 0 ∷ 0 ∷ 0 ∷ 0 ∷ 0 ∷ 0 ∷ 0 ∷ 0 ∷ 0 ∷ 0 ∷ 0 ∷ 0 ∷ 0 ∷ 0 ∷ 0 ∷ 0 ∷
+    0 ∷ 0 ∷ 0 ∷ 0 ∷ 0 ∷ 0 ∷ 0 ∷ 0 ∷ 0 ∷ 0 ∷ 0 ∷ 0 ∷ 0 ∷ 0 ∷ 0 ∷ 0 ∷ 0 ∷ 0 ∷ 0 ∷ 0 ∷ 0 ∷ 0 ∷ 0 ∷ 0 ∷ 0 ∷ 0 ∷ 0 ∷ 0 ∷ 0 ∷ 0 ∷ 0 ∷ 0 ∷ 0 ∷ 0 ∷
+    0 ∷ 0 ∷ 0 ∷ 0 ∷ 0 ∷ 0 ∷ 0 ∷ 0 ∷ 0 ∷ 0 ∷ 0 ∷ 0 ∷ 0 ∷ 0 ∷ 0 ∷ 0 ∷ 0 ∷ 0 ∷ 0 ∷ 0 ∷ 0 ∷ 0 ∷ 0 ∷ 0 ∷ 0 ∷ 0 ∷ 0 ∷ 0 ∷ 0 ∷ 0 ∷ 0 ∷ 0 ∷ 0 ∷ 0 ∷
+    0 ∷ 0 ∷ 0 ∷ 0 ∷ 0 ∷ 0 ∷ 0 ∷ 0 ∷ 0 ∷ 0 ∷ 0 ∷ 0 ∷ 0 ∷ 0 ∷ 0 ∷ 0 ∷ 0 ∷ 0 ∷ 0 ∷ 0 ∷ 0 ∷ 0 ∷ 0 ∷ 0 ∷ 0 ∷ 0 ∷ 0 ∷ 0 ∷ 0 ∷ 0 ∷ 0 ∷ 0 ∷ 0 ∷ 0 ∷
+    0 ∷ 0 ∷ 0 ∷ 0 ∷ 0 ∷ 0 ∷ 0 ∷ 0 ∷ 0 ∷ 0 ∷ 0 ∷ 0 ∷ 0 ∷ 0 ∷ 0 ∷ 0 ∷ 0 ∷ 0 ∷ 0 ∷ 0 ∷ 0 ∷ 0 ∷ 0 ∷ 0 ∷ 0 ∷ 0 ∷ 0 ∷ 0 ∷ 0 ∷ 0 ∷ 0 ∷ 0 ∷ 0 ∷ 0 ∷
+    0 ∷ 0 ∷ 0 ∷ 0 ∷ 0 ∷ 0 ∷ 0 ∷ 0 ∷ 0 ∷ 0 ∷ 0 ∷ 0 ∷ 0 ∷ 0 ∷ 0 ∷ 0 ∷ 0 ∷ 0 ∷ 0 ∷ 0 ∷ 0 ∷ 0 ∷ 0 ∷ 0 ∷ 0 ∷ 0 ∷ 0 ∷ 0 ∷ 0 ∷ 0 ∷ 0 ∷ 0 ∷ 0 ∷ 0 ∷
+    0 ∷ 0 ∷ 0 ∷ 0 ∷ 0 ∷ 0 ∷ 0 ∷ 0 ∷ 0 ∷ 0 ∷ 0 ∷ 0 ∷ 0 ∷ 0 ∷ 0 ∷ 0 ∷ 0 ∷ 0 ∷ 0 ∷ 0 ∷ 0 ∷ 0 ∷ 0 ∷ 0 ∷ 0 ∷ 0 ∷ 0 ∷ 0 ∷ 0 ∷ 0 ∷ 0 ∷ 16 ∷ 0 ∷
+    32 ∷ 1 ∷ 9 ∷ 12 ∷ 1 ∷ 0 ∷ 32 ∷ 0 ∷ 32 ∷ 0 ∷ 0 ∷ 0 ∷ 0 ∷ 0 ∷ 0 ∷ 0 ∷ 0 ∷ 0 ∷ 0 ∷ 0 ∷ 0 ∷ 0 ∷ 0 ∷ 0 ∷ 0 ∷ 0 ∷ 0 ∷ 0 ∷ 0 ∷ 0 ∷ 0 ∷ 0 ∷ 0 ∷
+    0 ∷ 0 ∷ 0 ∷ 0 ∷ 0 ∷ 0 ∷ 0 ∷ 0 ∷ 0 ∷ 0 ∷ 0 ∷ 0 ∷ 0 ∷ 0 ∷ 0 ∷ 0 ∷ 0 ∷ 0 ∷ 0 ∷ 0 ∷ 0 ∷ 0 ∷ 0 ∷ 0 ∷ 0 ∷ 0 ∷ 0 ∷ 0 ∷ 0 ∷ 0 ∷ 0 ∷ 0 ∷ 0 ∷ 0 ∷
+    0 ∷ 0 ∷ 0 ∷ 0 ∷ 0 ∷ 0 ∷ 0 ∷ 0 ∷ 0 ∷ 0 ∷ 0 ∷ 0 ∷ 0 ∷ 0 ∷ 0 ∷ 0 ∷ 0 ∷ 0 ∷ 0 ∷ 0 ∷ 0 ∷ 0 ∷ 0 ∷ 0 ∷ 0 ∷ 0 ∷ 0 ∷ 0 ∷ 0 ∷ 0 ∷ 0 ∷ 0 ∷ 0 ∷ 0 ∷
+    0 ∷ 0 ∷ 0 ∷ 0 ∷ 0 ∷ 0 ∷ 0 ∷ 0 ∷ 0 ∷ 0 ∷ 0 ∷ 0 ∷ 0 ∷ 0 ∷ 0 ∷ 0 ∷ 0 ∷ 0 ∷ 0 ∷ 0 ∷ 0 ∷ 0 ∷ 0 ∷ 0 ∷ 0 ∷ 0 ∷ 0 ∷ 0 ∷ 0 ∷ 0 ∷ 0 ∷ 0 ∷ 0 ∷ 0 ∷
+    0 ∷ 0 ∷ 0 ∷ 0 ∷ 0 ∷ 0 ∷ 0 ∷ 0 ∷ 0 ∷ 0 ∷ 0 ∷ 0 ∷ 0 ∷ 0 ∷ 0 ∷ 0 ∷ 0 ∷ 0 ∷ 0 ∷ 0 ∷ 0 ∷ 0 ∷ 0 ∷ 0 ∷ 0 ∷ 0 ∷ 0 ∷ 0 ∷ 0 ∷ 0 ∷ 0 ∷ 0 ∷ 0 ∷ 0 ∷
+    0 ∷ 0 ∷ 0 ∷ 0 ∷ 0 ∷ 0 ∷ 0 ∷ 0 ∷ 0 ∷ 0 ∷ 0 ∷ 0 ∷ 0 ∷ 0 ∷ 0 ∷ 0 ∷ 0 ∷ 0 ∷ 0 ∷ 0 ∷ 0 ∷ 0 ∷ 0 ∷ 0 ∷ 0 ∷ 0 ∷ 0 ∷ 0 ∷ 0 ∷ 0 ∷ 0 ∷ 0 ∷ 0 ∷ 0 ∷
+    0 ∷ 0 ∷ 0 ∷ 0 ∷ 0 ∷ 0 ∷ 0 ∷ 0 ∷ 0 ∷ 0 ∷ 0 ∷ 0 ∷ 0 ∷ 0 ∷ 0 ∷ 0 ∷ 0 ∷ 0 ∷ 0 ∷ 0 ∷ 0 ∷ 0 ∷ 0 ∷ 0 ∷ 0 ∷ 0 ∷ 0 ∷ 0 ∷ 0 ∷ 0 ∷ 0 ∷ 0 ∷ 0 ∷ 0 ∷
+    0 ∷ 0 ∷ 0 ∷ 0 ∷ 0 ∷ 0 ∷ 0 ∷ 0 ∷ 0 ∷ 0 ∷ 0 ∷ 0 ∷ 0 ∷ 0 ∷ 0 ∷ 0 ∷ 0 ∷ 16 ∷ 0 ∷ 16 ∷ 0 ∷ 32 ∷ 0 ∷ 0 ∷ 208 ∷ 2 ∷ 0 ∷ 16 ∷ 1 ∷ 0 ∷ 2 ∷ 1 ∷
+    255 ∷ 255 ∷ 255 ∷ 255 ∷ 64 ∷ 0 ∷ 0 ∷ 16 ∷ 0 ∷ 0 ∷ 0 ∷ 0 ∷ 0 ∷ 0 ∷ 0 ∷ 0 ∷ 0 ∷ 0 ∷ 0 ∷ 0 ∷ 0 ∷ 0 ∷ 0 ∷ 0 ∷ 0 ∷ 0 ∷ 0 ∷ 0 ∷ 0 ∷ 0 ∷ 0 ∷
+    0 ∷ 0 ∷ 0 ∷ 0 ∷ 0 ∷ 0 ∷ 0 ∷ 0 ∷ 0 ∷ 0 ∷ 0 ∷ 0 ∷ 0 ∷ 0 ∷ 0 ∷ 0 ∷ 0 ∷ 0 ∷ 48 ∷ 0 ∷ 16 ∷ 0 ∷ 0 ∷ 1 ∷ 0 ∷ 212 ∷ 2 ∷ 0 ∷ 16 ∷ 2 ∷ 2 ∷ 0 ∷ 0 ∷
+    220 ∷ 2 ∷ 0 ∷ 16 ∷ 228 ∷ 2 ∷ 0 ∷ 16 ∷ 220 ∷ 2 ∷ 0 ∷ 16 ∷ 2 ∷ 0 ∷ 2 ∷ 2 ∷ 236 ∷ 2 ∷ 0 ∷ 16 ∷ 0 ∷ 0 ∷ 1 ∷ 2 ∷ 255 ∷ 255 ∷ 255 ∷ 255 ∷
+    106 ∷ 105 ∷ 98 ∷ 46 ∷ 98 ∷ 105 ∷ 110 ∷ 0 ∷ 0 ∷ 0 ∷ 0 ∷ 0 ∷ 1 ∷ 2 ∷ 2 ∷ 3 ∷ 4 ∷ 24 ∷ 0 ∷ 0 ∷ 0 ∷ 1 ∷ 2 ∷ 3 ∷ 4 ∷ 5 ∷ 6 ∷ 7 ∷ 8 ∷ 9 ∷ 10 ∷
+    11 ∷ 12 ∷ 13 ∷ 14 ∷ 15 ∷ 16 ∷ 17 ∷ 18 ∷ 255 ∷ 255 ∷ 255 ∷ 255 ∷ 255 ∷ 0 ∷ 0 ∷ 0 ∷ 0 ∷ 20 ∷ 19 ∷ 21 ∷ 0 ∷ 0 ∷ 0 ∷ 22 ∷ 23 ∷ 255 ∷ 255 ∷
+    0 ∷ 0 ∷ 0 ∷ 0 ∷ 0 ∷ 0 ∷ 0 ∷ 0 ∷ 0 ∷ 0 ∷ 0 ∷ 0 ∷ 0 ∷ 0 ∷ 0 ∷ 0 ∷ 0 ∷ 0 ∷ 0 ∷ 0 ∷ 0 ∷ 0 ∷ 0 ∷ 0 ∷ 0 ∷ 0 ∷ 0 ∷ 0 ∷ 0 ∷ 0 ∷ 0 ∷ 0 ∷ 0 ∷ 0 ∷
+    0 ∷ 0 ∷ 0 ∷ 0 ∷ 0 ∷ 0 ∷ 0 ∷ 0 ∷ []
+
+-- the header is read at the flash base, the rest at the CS0 base
+abbrev rp : Settings
+rp = record { «flash_base» = 134217728; «cs0_base» = 268435456; «info_offset» = 0 }
+
+abbrev newPins : SdrrPins
+newPins =
+    record {
+      «data_port» = SdrrMcuPort.PortA;
+      «addr_port» = SdrrMcuPort.PortB;
+      «cs_port» = SdrrMcuPort.PortB;
+      «sel_port» = SdrrMcuPort.PortC;
+      «status_port» = SdrrMcuPort.PortD;
+      «rom_pins» = 24;
+      «data» = 0 ∷ 1 ∷ 2 ∷ 3 ∷ 4 ∷ 5 ∷ 6 ∷ 7 ∷ [];
+      addr = 8 ∷ 9 ∷ 10 ∷ 11 ∷ 12 ∷ 13 ∷ 14 ∷ 15 ∷ 16 ∷ 17 ∷ 18 ∷ 255 ∷ 255 ∷ 255 ∷ 255 ∷ 255 ∷ [];
+      cs1 = 20;
+      cs2 = 19;
+      cs3 = 21;
+      reserved2a = 0;
+      reserved2b = 0;
+      reserved2c = 0;
+      x1 = 22;
+      x2 = 23;
+      ce = 255;
+      oe = 255;
+      «x_jumper_pull» = 0;
+      «swclk_sel» = 0;
+      «swdio_sel» = 0;
+      sel0 = 0;
+      sel1 = 0;
+      sel2 = 0;
+      sel3 = 0;
+      sel4 = 0;
+      sel5 = 0;
+      sel6 = 0;
+      «sel_jumper_pull» = 0;
+      status = 0;
+      extended = 0;
+      data2 = 0 ∷ 0 ∷ 0 ∷ 0 ∷ 0 ∷ 0 ∷ 0 ∷ 0 ∷ [];
+      addr2 = 0 ∷ 0 ∷ 0 ∷ 0 ∷ 0 ∷ 0 ∷ 0 ∷ 0 ∷ 0 ∷ 0 ∷ 0 ∷ 0 ∷ 0 ∷ 0 ∷ 0 ∷ 0 ∷ [];
+    }
+
+abbrev newReport : PinsItem → SdrrInfo
+newReport pins =
+    record {
+      fields = record {
+        version = version 0 6 1 0;
+        commit = 48 ∷ 48 ∷ 97 ∷ 98 ∷ 99 ∷ 100 ∷ 101 ∷ 102 ∷ [];
+        «stm_line» = McuLine.Rp2350;
+        «stm_storage» = McuStorage.Storage2MB;
+        freq = 150;
+        overclock = true;
+        «swd_enabled» = false;
+        «preload_image_to_ram» = false;
+        «bootloader_capable» = false;
+        «status_led_enabled» = true;
+        «boot_logging_enabled» = true;
+        «mco_enabled» = false;
+        «count_rom_access» = false;
+        «boot_config» = 1 ∷ 2 ∷ 3 ∷ 4 ∷ [];
+      };
+      «build_date» = accepted 64 5;
+      «hw_rev» = accepted 70 7;
+      «extra_info» = record {
+        number = 0;
+        «extra_info» = record {
+          «rtt_ptr» = 536875008;
+          «usb_dfu» = true;
+          «usb_port» = SdrrMcuPort.None;
+          «vbus_pin» = 12;
+          «fire_pio_default» = FirePioDefault.Given true;
+          «runtime_info_ptr» = 536879104;
+        };
+      };
+      metadata = MetadataItem.Looked 0;
+      «rom_sets» = record { number = 0; «rom_set_count» = 2; served = 2 };
+      pins = pins;
+    }
+
+-- set 0 has overrides and stride 64; the first ROM row of set 1 is 1
+abbrev newSetRows : List ℕ
+newSetRows =
+    268439552 ∷ 8192 ∷ 0 ∷ 1 ∷ 0 ∷ 2 ∷ 0 ∷ 268435520 ∷ 268447744 ∷ 65536 ∷ 1 ∷ 2 ∷ 2 ∷ 0 ∷ 0 ∷ 0 ∷ []
+
+abbrev newRomRows : (offset len reason : ℕ) → List ℕ → List ℕ
+newRomRows o l n rest = 2 ∷ 0 ∷ 2 ∷ 2 ∷ o ∷ l ∷ n ∷ 0 ∷ 0 ∷ 1 ∷ 2 ∷ 0 ∷ 0 ∷ 1 ∷ 2 ∷ 0 ∷ 2 ∷ 2 ∷ o ∷ l ∷ n ∷ rest
+
+-- a word more than is needed stays as it was
+new-board : seen rp 16 22 newImage ≡ shows (newReport (record { number = 0; pins = newPins })) newSetRows (newRomRows 748 7 0 (0 ∷ []))
+unfolding startsWith run trace endOf canRead answer tried triedShown readsOf andThen looked classOf lowAfter highAfter lacking isUtf8 lineOf isRp2350 storageOf portOf hasNul beforeNul judged chunksP textP before fieldsOf wholeOf headerOf headerP E.fieldsOf noExtraInfo extraInfoOf extraInfoP metadataOf metadataP P.fieldsOf noPins pinsOf pinsP romOf judgeRom romP romsP tableP pointedP setP setsP O.setsP walkP romsOf nameP namesP walkNamesP setRow countsOf setRowsAfter romFront nameWords romRow romRows lookP rowP reportOf verdict openP opening newImage
+new-board = refl
+
+new-reads : tried (openP rp 16 21) newImage ≡ 17
+unfolding startsWith run trace endOf canRead answer tried triedShown readsOf andThen looked classOf lowAfter highAfter lacking isUtf8 lineOf isRp2350 storageOf portOf hasNul beforeNul judged chunksP textP before fieldsOf wholeOf headerOf headerP E.fieldsOf noExtraInfo extraInfoOf extraInfoP metadataOf metadataP P.fieldsOf noPins pinsOf pinsP romOf judgeRom romP romsP tableP pointedP setP setsP O.setsP walkP romsOf nameP namesP walkNamesP setRow countsOf setRowsAfter romFront nameWords romRow romRows lookP rowP reportOf verdict openP opening newImage
+new-reads = refl
+
+-- cut within the name's chunk: the names and the pins are ended, all else is shown
+new-cut : seen rp 16 21 (take 811 newImage) ≡ shows (newReport (P.refused 2)) newSetRows (newRomRows 0 0 2 [])
+unfolding startsWith run trace endOf canRead answer tried triedShown readsOf andThen looked classOf lowAfter highAfter lacking isUtf8 lineOf isRp2350 storageOf portOf hasNul beforeNul judged chunksP textP before fieldsOf wholeOf headerOf headerP E.fieldsOf noExtraInfo extraInfoOf extraInfoP metadataOf metadataP P.fieldsOf noPins pinsOf pinsP romOf judgeRom romP romsP tableP pointedP setP setsP O.setsP walkP romsOf nameP namesP walkNamesP setRow countsOf setRowsAfter romFront nameWords romRow romRows lookP rowP reportOf verdict openP opening newImage
+new-cut = refl

@@ -1,7 +1,7 @@
 -- The inputs of document 01's starred cases.
 use Prim.Native.Nat.{ℕ}
 use mathlib.Core.List.{List, [], _∷_}
-use lib.ListN.{take, set}
+use lib.ListN.{take, set, replicate}
 
 -- Program `runtime`
 abbrev pub ramBase : ℕ
@@ -23,3 +23,26 @@ recordR3 = set recordR1 4 19
 -- byte 27 = 32
 abbrev pub recordR4 : List ℕ
 recordR4 = set recordR1 27 32
+
+-- "A", NUL, 64-byte image, pointer at its base
+abbrev pub flashBase : ℕ
+flashBase = 134217728
+
+abbrev pub imageT1 : List ℕ
+imageT1 = 65 ∷ replicate 63 0
+
+-- same, 63 bytes
+abbrev pub imageT2 : List ℕ
+imageT2 = take 63 imageT1
+
+-- C0 80 00 in 64 bytes
+abbrev pub imageT3 : List ℕ
+imageT3 = 0xC0 ∷ 0x80 ∷ replicate 62 0
+
+-- data pins 7..0
+abbrev pub pinsD1 : List ℕ
+pinsD1 = 7 ∷ 6 ∷ 5 ∷ 4 ∷ 3 ∷ 2 ∷ 1 ∷ 0 ∷ []
+
+-- a pin 8
+abbrev pub pinsD2 : List ℕ
+pinsD2 = 7 ∷ 6 ∷ 5 ∷ 8 ∷ 3 ∷ 2 ∷ 1 ∷ 0 ∷ []

@@ -1,9 +1,10 @@
 // The starred cases of document 01, run by the code. Each function's statement is its row of specs/Table.antt.
 ghost use mathlib.Core.Path.{_≡_};
 ghost use mathlib.Core.List.{_∷_};
-ghost use Rattle.starred.specs.Table.{ofRecord, expected};
-ghost use Rattle.starred.specs.Table.Case.{R1, R2, R3, R4};
+ghost use Rattle.starred.specs.Table.{ofRecord, ofString, textWords, expected};
+ghost use Rattle.starred.specs.Table.Case.{R1, R2, R3, R4, T1, T2, T3};
 use libc::STDOUT_FILENO;
+use text::Text;
 
 struct RuntimeAnswer {
     number: u32,
@@ -50,6 +51,37 @@ fn case_r4() -> RuntimeAnswer
     )
 }
 
+fn string_answer(image: &[u8]) -> Text
+    ensures { λ r. ⌜ textWords r ≡ ofString (now (image .entry)) ⌝ }
+{
+    text::read_string_at_ptr(image, 134217728, 134217728)
+}
+
+fn case_t1() -> Text
+    ensures { λ r. ⌜ textWords r ≡ expected T1 ⌝ }
+{
+    let mut image = [0u8; 64];
+    image[0] = 65;
+    string_answer(&image)
+}
+
+fn case_t2() -> Text
+    ensures { λ r. ⌜ textWords r ≡ expected T2 ⌝ }
+{
+    let mut image = [0u8; 63];
+    image[0] = 65;
+    string_answer(&image)
+}
+
+fn case_t3() -> Text
+    ensures { λ r. ⌜ textWords r ≡ expected T3 ⌝ }
+{
+    let mut image = [0u8; 64];
+    image[0] = 0xC0;
+    image[1] = 0x80;
+    string_answer(&image)
+}
+
 fn print_number(n: u32) {
     io::write_all(STDOUT_FILENO, b" ");
     io::print_decimal(STDOUT_FILENO, n as u64);
@@ -71,9 +103,20 @@ fn print_runtime(name: &[u8], a: RuntimeAnswer) {
     io::write_all(STDOUT_FILENO, b"\n");
 }
 
+fn print_text(name: &[u8], t: Text) {
+    io::write_all(STDOUT_FILENO, name);
+    print_number(t.number as u32);
+    print_number(t.offset);
+    print_number(t.length);
+    io::write_all(STDOUT_FILENO, b"\n");
+}
+
 fn main() {
     print_runtime(b"R1", case_r1());
     print_runtime(b"R2", case_r2());
     print_runtime(b"R3", case_r3());
     print_runtime(b"R4", case_r4());
+    print_text(b"T1", case_t1());
+    print_text(b"T2", case_t2());
+    print_text(b"T3", case_t3());
 }

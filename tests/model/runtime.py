@@ -1,25 +1,9 @@
-#!/usr/bin/env python3
-"""Document 01, "Runtime", read a second time, in Python: makes the vectors of crates/runtime_vectors.
+"""Document 01, "Runtime", read a second time, in Python."""
+import json
 
-    python3 tests/model/runtime.py            writes crates/runtime_vectors/{stdin,stdout} and tests/data/runtime.txt
+from records import u16, u32
 
-stdin has a vector to a line: the RAM base in eight hexadecimal digits, a space, the record in hexadecimal.
-stdout has its answer: the number, and for an accepted record the words of include/onerom.h.
-tests/data/runtime.txt has, for the program `runtime`, a record and the lines it must print, joined by '|'.
-tests/data/runtime-vectors.jsonl are answers of another reader of document 01; where the two differ, this script stops.
-"""
-import json, os
-
-TOP = os.path.join(os.path.dirname(os.path.abspath(__file__)), "..", "..")
 PROGRAM_BASE = 536870912
-
-
-def u16(s, at):
-    return s[at] | s[at + 1] << 8
-
-
-def u32(s, at):
-    return u16(s, at) | u16(s, at + 2) << 16
 
 
 def groups(s):
@@ -123,10 +107,11 @@ def vectors():
     yield record(57, 56), PROGRAM_BASE
 
 
-def main():
-    cases = list(vectors())
+def cases(known_file):
+    """All vectors; and the records for the program, a sample of every kind. known_file: answers of another reader, which must agree."""
+    every = list(vectors())
     known = []
-    for line in open(os.path.join(TOP, "tests/data/runtime-vectors.jsonl")):
+    for line in open(known_file):
         v = json.loads(line)
         s, base = bytes.fromhex(v["record"]), v["ram_base"]
         number, f = v["reply"]
@@ -140,20 +125,5 @@ def main():
         if "output" in v:
             assert v["output"] == "".join(x + "\n" for x in text(s)), v
         known.append((s, base))
-    cases += known
-    crate = os.path.join(TOP, "crates/runtime_vectors")
-    with open(os.path.join(crate, "stdin"), "w") as i, open(os.path.join(crate, "stdout"), "w") as o:
-        for s, base in cases:
-            i.write("%08x %s\n" % (base, s.hex()))
-            o.write(" ".join(map(str, words(s, base))) + "\n")
-    # the program: a sample of every kind, and records longer than 64 bytes
-    shown = [s for s, base in cases if base == PROGRAM_BASE]
-    shown = shown[::13] + [s for s, base in known if base == PROGRAM_BASE]
-    with open(os.path.join(TOP, "tests/data/runtime.txt"), "w") as o:
-        for s in shown:
-            o.write("%s|%s\n" % (s.hex(), "|".join(text(s))))
-    print(len(cases), "vectors,", len(shown), "for the program")
-
-
-if __name__ == "__main__":
-    main()
+    shown = [s for s, base in every + known if base == PROGRAM_BASE][::13] + [s for s, base in known if base == PROGRAM_BASE]
+    return every + known, shown

@@ -1,8 +1,8 @@
 use Prim.Native.Nat.{_≤_, _-_}
 use lib.ListN.{length}
 use borrow.Author.Needs.{needs}
-use Rattle.runtime_vectors.proofs.run_all.Statement.{statement}
-use Rattle.runtime_vectors.proofs.run_all.Tie as tie
+use Rattle.vectors.proofs.run_all.Statement.{statement}
+use Rattle.vectors.proofs.run_all.Tie as tie
 
 abbrev Inv-loop : tie.InvT-loop
 Inv-loop input at₀ at = at ≤ length input

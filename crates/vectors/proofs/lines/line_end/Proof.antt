@@ -1,8 +1,8 @@
 use Prim.Native.Nat.{_≤_, _-_}
 use lib.ListN.{length}
 use borrow.Author.Needs.{needs}
-use Rattle.runtime_vectors.proofs.line_end.Statement.{statement}
-use Rattle.runtime_vectors.proofs.line_end.Tie as tie
+use Rattle.vectors.proofs.lines.line_end.Statement.{statement}
+use Rattle.vectors.proofs.lines.line_end.Tie as tie
 
 abbrev Inv-loop : tie.InvT-loop
 Inv-loop input from i₀ i = (from ≤ i) × (i ≤ length input)

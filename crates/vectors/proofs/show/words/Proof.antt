@@ -1,7 +1,7 @@
 use Prim.Native.Nat.{_≤_, _-_}
 use borrow.Author.Needs.{needs}
-use Rattle.runtime_vectors.proofs.print_words.Statement.{statement}
-use Rattle.runtime_vectors.proofs.print_words.Tie as tie
+use Rattle.vectors.proofs.show.words.Statement.{statement}
+use Rattle.vectors.proofs.show.words.Tie as tie
 
 abbrev Inv-loop : tie.InvT-loop
 Inv-loop words i₀ i = i ≤ 25
@@ -12,14 +12,14 @@ abbrev μ-loop : tie.MeasureT-loop
 loop-holds : tie.Need-loop-holds Inv-loop μ-loop
 loop-holds c = search needs
 
-mul-print-number : tie.Need-mul-print-number Inv-loop μ-loop
-mul-print-number c = search needs
+mul-next : tie.Need-mul-next Inv-loop μ-loop
+mul-next c = search needs
 
-element-copy-out-print-number : tie.Need-element-copy-out-print-number Inv-loop μ-loop
-element-copy-out-print-number c = search needs
+element-copy-out-next : tie.Need-element-copy-out-next Inv-loop μ-loop
+element-copy-out-next c = search needs
 
-print-number-requires : tie.Need-print-number-requires Inv-loop μ-loop
-print-number-requires c κs = search needs
+next-requires : tie.Need-next-requires Inv-loop μ-loop
+next-requires c κs = search needs
 
 add-i : tie.Need-add-i Inv-loop μ-loop
 add-i c = search needs
@@ -33,16 +33,16 @@ loop-again c = search needs
 returns : tie.Need-returns Inv-loop μ-loop
 returns c = search needs
 
-pub print-words-spec : {M : Type 1} → statement M
-print-words-spec =
+pub words-spec : {M : Type 1} → statement M
+words-spec =
     tie.close
     (tie.spec
     Inv-loop
     μ-loop
     loop-holds
-    mul-print-number
-    element-copy-out-print-number
-    print-number-requires
+    mul-next
+    element-copy-out-next
+    next-requires
     add-i
     loop-less
     loop-again

@@ -1,0 +1,83 @@
+// Runs the vectors of tests/model/make.py: a vector to a line of standard input, its answer to a line of standard output, which `rt check`
+// compares with the expected lines beside it.
+mod lines;
+mod show;
+
+use libc::STDIN_FILENO;
+ghost use mathlib.Core.Path.{_≡_};
+ghost use Prim.Native.Nat.{_<_};
+ghost use lib.ListN.{length};
+
+// The contract gives the length alone, so that no caller's proof computes the list.
+fn input_space() -> [u8; 2097152]
+    ensures { λ r. ⌜ 2097152 ≡ length r ⌝ }
+{
+    [0; 2097152]
+}
+
+fn run_runtime(record: &[u8], ram_base: u32) {
+    let mut words = [0u32; 25];
+    let number = onerom::onerom_runtime(record, ram_base, &mut words);
+    show::first(number);
+    if number == 0 {
+        show::words(&words);
+    }
+}
+
+// A kind whose numbers are a base and a pointer or an offset.
+fn run_record(kind: u8, line: &[u8], image: &[u8]) {
+    let base = lines::number(line, 0);
+    let at = lines::number(line, 1);
+    match kind {
+        b's' => show::text(text::read_string_at_ptr(image, base, at)),
+        _ => show::first(255),
+    }
+}
+
+fn run_bytes(kind: u8, line: &[u8], bytes: [u8; 4096], n: usize) {
+    if 4096 < n {
+        return;
+    }
+    let image = &bytes[..n];
+    match kind {
+        b'r' => run_runtime(image, lines::number(line, 0)),
+        _ => run_record(kind, line, image),
+    }
+}
+
+// How many numbers stand between a kind and its bytes.
+fn numbers_of(kind: u8) -> usize
+    ensures { λ r. ⌜ r < 8 ⌝ }
+{
+    match kind {
+        b'r' => 1,
+        b'e' => 6,
+        _ => 2,
+    }
+}
+
+fn run_line(line: &[u8]) {
+    let kind = le::u8_at(line, 0);
+    let mut bytes = [0u8; 4096];
+    let n = lines::decode(line, numbers_of(kind), &mut bytes);
+    run_bytes(kind, line, bytes, n);
+    show::end();
+}
+
+fn run_all(input: &[u8]) {
+    let mut at = 0;
+    while at < input.len() {
+        let end = lines::line_end(input, at);
+        run_line(&input[at..end]);
+        at = end;
+        if at < input.len() {
+            at += 1;
+        }
+    }
+}
+
+fn main() {
+    let mut input = input_space();
+    let n = io::read_full(STDIN_FILENO, &mut input);
+    run_all(&input[..n]);
+}

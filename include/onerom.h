@@ -61,6 +61,16 @@ enum onerom_runtime_word {
 uint32_t onerom_runtime(const uint8_t *record, size_t record_len, uint32_t ram_base,
                         uint32_t words[ONEROM_RUNTIME_WORDS]);
 
+/* A string of the image: at most 1,024 bytes in chunks of 64, ended by its first NUL.
+ *
+ * image[0 .. image_len)  the image, which starts at address base
+ * pointer                the string's address
+ * part                   offset in the image and length without the NUL, written where the string is accepted
+ *
+ * 1: base plus image length exceeds 2^32. 3: pointer below base. 2: a chunk ended before a NUL was found.
+ * 20: 1,024 bytes, no NUL. 21: not UTF-8. */
+uint32_t onerom_string(const uint8_t *image, size_t image_len, uint32_t base, uint32_t pointer, uint32_t part[2]);
+
 #ifdef __cplusplus
 }
 #endif

@@ -6,6 +6,7 @@
 A line of stdin: a letter for the kind, then numbers of eight hexadecimal digits, then bytes in hexadecimal. stdout has its answer, decimal.
     r RAM-base record        the runtime record: number, and the words of include/onerom.h where it is accepted
     s base pointer image     a string: number, offset, length
+    S base pointer image     a string by the exported call
     h base offset image      the header
     e base pointer major minor patch build image    extra info
     m base pointer image     metadata
@@ -173,16 +174,14 @@ def main():
     cases, shown = runtime.cases(os.path.join(TOP, "tests/data/runtime-vectors.jsonl"))
     for s, base in cases:
         out.append((line("r", base, s), runtime.words(s, base)))
-    strings = list(string_cases())
+    for image, base, pointer in string_cases():
+        out.append((line("s", base, pointer, image), records.string(image, base, pointer)))
     for text in open(os.path.join(TOP, "tests/data/strings-vectors.jsonl")):
         v = json.loads(text)
-        image = bytes.fromhex(v["image"])
-        if v["number"] == 1:  # the exported call's own refusal
-            continue
-        assert [v["number"], v["offset"], v["length"]] == records.string(image, v["base"], v["pointer"]), v
-        strings.append((image, v["base"], v["pointer"]))
-    for image, base, pointer in strings:
-        out.append((line("s", base, pointer, image), records.string(image, base, pointer)))
+        image, base, pointer = bytes.fromhex(v["image"]), v["base"], v["pointer"]
+        answer = records.string_call(image, base, pointer)
+        assert [v["number"], v["offset"], v["length"]] == answer, v
+        out.append((line("S", base, pointer, image), answer))
     for image, base, offset in header_cases():
         out.append((line("h", base, offset, image), records.header(image, base, offset)))
     for image, base, pointer, version in extra_cases():

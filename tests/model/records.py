@@ -47,6 +47,11 @@ def string(image, base, pointer):
     return [20, 0, 0]
 
 
+def string_call(image, base, pointer):
+    """The exported call checks the base that it is given."""
+    return [1, 0, 0] if base + len(image) > 2**32 else string(image, base, pointer)
+
+
 def header(image, flash_base, info_offset):
     """number; version, commit, line, storage, frequency, seven flags, counting, boot config; date, revision, count, sets, pins, extra"""
     none = [0] * 33

@@ -5,9 +5,9 @@ test_c_library() {
     [ -f target/staticlib/libonerom.a ]
 }
 
-test_c_runtime() {
-    cc -std=c99 -Wall -Wextra -Werror -pedantic -Iinclude -o target/c-runtime tests/c/runtime.c target/staticlib/libonerom.a &&
-        [ "$(target/c-runtime)" = ok ]
+test_c_calls() {
+    cc -std=c99 -Wall -Wextra -Werror -pedantic -Iinclude -o target/c-calls tests/c/calls.c target/staticlib/libonerom.a &&
+        [ "$(target/c-calls)" = ok ]
 }
 
 # The header serves C++ too.

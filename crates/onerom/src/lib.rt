@@ -1,6 +1,7 @@
 // The entry points for C and Rust: include/onerom.h declares them.
 ghost use mathlib.Core.Path.{_≡_};
 ghost use Rattle.runtime_info.specs.Runtime.{runtimeOf};
+ghost use Rattle.text.specs.Text.{stringCall, partAfter};
 ghost use Rattle.runtime_info.specs.Words.{bit, headWords, words060, words062, words063, words067, runtimeWords, numberOf, wordsAfter};
 use runtime_info::GroupV060;
 use runtime_info::GroupV062;
@@ -133,4 +134,30 @@ pub extern "C" fn onerom_runtime(record: &[u8], ram_base: u32, words: &mut [u32;
             0
         }
     }
+}
+
+fn string_at(image: &[u8], base: u32, pointer: u32) -> text::Text
+    ensures { λ r. ⌜ r ≡ stringCall base pointer (now (image .entry)) ⌝ }
+{
+    if 4294967296 - (base as usize) < image.len() {
+        return text::Text {
+            number: 1,
+            offset: 0,
+            length: 0,
+        };
+    }
+    text::read_string_at_ptr(image, base, pointer)
+}
+
+#[no_mangle]
+pub extern "C" fn onerom_string(image: &[u8], base: u32, pointer: u32, part: &mut [u32; 2]) -> u32
+    ensures reply { λ r. ⌜ r ≡ stringCall base pointer (now (image .entry)) .number ⌝ }
+    ensures part { λ r. ⌜ now (part .exit) ≡ partAfter (stringCall base pointer (now (image .entry))) (now (part .entry)) ⌝ }
+{
+    let t = string_at(image, base, pointer);
+    if t.number != 0 {
+        return t.number as u32;
+    }
+    *part = [t.offset, t.length];
+    0
 }

@@ -4,7 +4,7 @@ use mathlib.Core.Bool.{Bool, false, _||_}
 use mathlib.Core.List.{List, [], _∷_, _++_}
 use lib.Dec.{leb, ltb, eqb}
 use lib.ListN.{length, take, drop}
-use Rattle.prog.specs.Prog.{Prog, done, fetch, pick}
+use Rattle.prog.specs.Prog.{Prog, done, fetch, pick, run}
 use Rattle.utf8.specs.Utf8.{isUtf8}
 use Rattle.text.specs.declared.Text.{Text as Str}
 
@@ -48,3 +48,11 @@ chunksP (suc left) base offset a s =
 -- 3: pointer below base.
 unfoldable pub textP : ℕ → ℕ → Prog Str
 textP base pointer = pick (ltb pointer base) (done (refused 3)) (chunksP 16 base (pointer - base) pointer [])
+
+-- "Window check", for the exported call, which is given an image and one base. 1: base plus image length exceeds 2^32.
+unfoldable pub stringCall : ℕ → ℕ → List ℕ → Str
+stringCall base pointer x = pick (ltb 4294967296 (base + length x)) (refused 1) (run (textP base pointer) x)
+
+-- the two lent words afterwards: offset and length; a refusal changes none
+abbrev pub partAfter : Str → List ℕ → List ℕ
+partAfter t before = pick (eqb (t .number) 0) (t .offset ∷ t .length ∷ []) before

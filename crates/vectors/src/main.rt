@@ -24,12 +24,20 @@ fn run_runtime(record: &[u8], ram_base: u32) {
     }
 }
 
+// A string by the exported call.
+fn run_string(image: &[u8], base: u32, pointer: u32) {
+    let mut part = [0u32; 2];
+    let number = onerom::onerom_string(image, base, pointer, &mut part);
+    show::three(number, part[0], part[1]);
+}
+
 // A kind whose numbers are a base and a pointer or an offset.
 fn run_record(kind: u8, line: &[u8], image: &[u8]) {
     let base = lines::number(line, 0);
     let at = lines::number(line, 1);
     match kind {
         b's' => show::text(text::read_string_at_ptr(image, base, at)),
+        b'S' => run_string(image, base, at),
         _ => show::first(255),
     }
 }

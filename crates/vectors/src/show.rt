@@ -44,10 +44,14 @@ pub(crate) fn words(words: &[u32; 25]) {
     }
 }
 
+pub(crate) fn three(a: u32, b: u32, c: u32) {
+    first(a);
+    next(b);
+    next(c);
+}
+
 pub(crate) fn text(t: Text) {
-    first(t.number as u32);
-    next(t.offset);
-    next(t.length);
+    three(t.number as u32, t.offset, t.length);
 }
 
 pub(crate) fn metadata(m: MetadataAnswer) {

@@ -1,4 +1,4 @@
-/* Calls onerom_runtime from C on R1 to R4 and at the edges of its refusals. */
+/* Calls the library from C: the starred cases, and each refusal. */
 #include <stdio.h>
 #include <string.h>
 
@@ -28,7 +28,7 @@ static int untouched(const uint32_t *words) {
     return 1;
 }
 
-int main(void) {
+static void runtime_record(void) {
     uint32_t w[ONEROM_RUNTIME_WORDS];
     uint8_t r[36];
     static const uint32_t r1[ONEROM_RUNTIME_WORDS] = {1, 2, 1, 5, 536870920, 536870912, 65536, 1, 1, 0, 1, 11, 150, 300, 300};
@@ -48,6 +48,37 @@ int main(void) {
     memcpy(r, R1, 36);
     r[3] = 's';
     expect(run(r, 36, 4294967295u, w) == 60 && untouched(w), "60 before 62");
+}
+
+static uint32_t string_at(const void *image, size_t len, uint32_t base, uint32_t pointer, uint32_t *part) {
+    part[0] = part[1] = 77;
+    return onerom_string(image, len, base, pointer, part);
+}
+
+static void strings(void) {
+    uint8_t image[1088];
+    uint32_t p[2];
+    memset(image, 0, sizeof image);
+    image[0] = 'A';
+    expect(string_at(image, 64, BASE, BASE, p) == 0 && p[0] == 0 && p[1] == 1, "T1");
+    expect(string_at(image, 63, BASE, BASE, p) == 2 && p[0] == 77 && p[1] == 77, "T2");
+    image[0] = 0xC0;
+    image[1] = 0x80;
+    expect(string_at(image, 64, BASE, BASE, p) == 21 && p[1] == 77, "T3");
+    memset(image, 'x', sizeof image);
+    expect(string_at(image, 1088, BASE, BASE, p) == 20 && p[1] == 77, "20");
+    image[1023] = 0;
+    expect(string_at(image, 1024, BASE, BASE, p) == 0 && p[1] == 1023, "T4");
+    expect(string_at(image, 1088, BASE, BASE - 1, p) == 3, "3");
+    expect(string_at(image, 65, 4294967232u, 4294967232u, p) == 1 && p[0] == 77, "1");
+    expect(string_at(image, 64, 4294967232u, 4294967232u, p) == 2, "up to 2^32");
+    expect(string_at(NULL, 0, BASE, BASE, p) == 2, "no image");
+    expect(string_at(image + 1000, 64, BASE, BASE + 24, p) == 2, "a chunk past the end");
+}
+
+int main(void) {
+    runtime_record();
+    strings();
     if (!failed) printf("ok\n");
     return failed;
 }

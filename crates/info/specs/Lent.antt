@@ -16,48 +16,39 @@ use Rattle.mangle.specs.Mangle.{mangleCore}
 use Rattle.mangle.specs.Demangle.{demangle}
 use Rattle.info.specs.declared.Valued.{Valued}
 
--- What later calls look at: of the report the line, the pins item and the sets served; and the rows, in words.
--- 01 coins "lent" for memory that a caller hands to a call, and "served" for the sets that 71 and 80 go by.
-pub record Lent : Type 0 where
-  pub line : McuLine
-  pub pins : PinsItem
-  pub served : ℕ
-  pub setWords : List ℕ
-  pub romWords : List ℕ
-
--- ---- rows
+-- ---- rows, as lists of words
 
 -- the whole row is among those lent
-abbrev pub hasSetRow : Lent → ℕ → Bool
-hasSetRow l i = leb (setWidth * i + setWidth) (length (l .setWords))
+abbrev pub hasSetRow : List ℕ → ℕ → Bool
+hasSetRow sets i = leb (setWidth * i + setWidth) (length sets)
 
-abbrev pub hasRomRow : Lent → ℕ → Bool
-hasRomRow l i = leb (romWidth * i + romWidth) (length (l .romWords))
+abbrev pub hasRomRow : List ℕ → ℕ → Bool
+hasRomRow roms row = leb (romWidth * row + romWidth) (length roms)
 
-abbrev pub setWord : Lent → ℕ → ℕ → ℕ
-setWord l i word = getD (l .setWords) (setWidth * i + word) 0
+abbrev pub setWord : List ℕ → ℕ → ℕ → ℕ
+setWord sets i word = getD sets (setWidth * i + word) 0
 
-abbrev pub dataPointer : Lent → ℕ → ℕ
-dataPointer l i = setWord l i 0
+abbrev pub dataPointer : List ℕ → ℕ → ℕ
+dataPointer sets i = setWord sets i 0
 
-abbrev pub sizeOf : Lent → ℕ → ℕ
-sizeOf l i = setWord l i 1
+abbrev pub sizeOf : List ℕ → ℕ → ℕ
+sizeOf sets i = setWord sets i 1
 
-abbrev pub firstRom : Lent → ℕ → ℕ
-firstRom l i = setWord l i 2
+abbrev pub firstRom : List ℕ → ℕ → ℕ
+firstRom sets i = setWord sets i 2
 
-abbrev pub romCount : Lent → ℕ → ℕ
-romCount l i = setWord l i 3
+abbrev pub romCount : List ℕ → ℕ → ℕ
+romCount sets i = setWord sets i 3
 
-abbrev pub serveOf : Lent → ℕ → ℕ
-serveOf l i = setWord l i 4
+abbrev pub serveOf : List ℕ → ℕ → ℕ
+serveOf sets i = setWord sets i 4
 
-abbrev pub typeWord : Lent → ℕ → ℕ
-typeWord l row = getD (l .romWords) (romWidth * row) 0
+abbrev pub typeWord : List ℕ → ℕ → ℕ
+typeWord roms row = getD roms (romWidth * row) 0
 
 -- a needed ROM row isn't among those lent, or its type is above 33
-abbrev pub badRomRow : Lent → ℕ → Bool
-badRomRow l row = not (hasRomRow l row) || ltb 33 (typeWord l row)
+abbrev pub badRomRow : List ℕ → ℕ → Bool
+badRomRow roms row = not (hasRomRow roms row) || ltb 33 (typeWord roms row)
 
 -- ---- mangling and demangling on a board
 
@@ -65,26 +56,37 @@ abbrev pub unmangled : ℕ → Mangled
 unmangled n = record { number = n; value = 0 }
 
 -- Set 0's ROM count and first type govern. 70: no pins. 71: no sets. 4: set 0's row, then unless 74 applies its first ROM row. Then 72 to 78.
-unfoldable pub mangleAddress : Lent → ℕ → SdrrCsSet → Mangled
-mangleAddress l address levels =
-    pick (not (eqb (l .pins .number) 0)) (unmangled 70)
-    (pick (eqb (l .served) 0) (unmangled 71)
-    (pick (not (hasSetRow l 0)) (unmangled 4)
-    (pick (not (eqb (romCount l 0) 0) && badRomRow l (firstRom l 0)) (unmangled 4)
-    (mangleCore (l .pins .pins) (romCount l 0) (romTypeOf (typeWord l (firstRom l 0))) address levels))))
+unfoldable pub mangleAddress : PinsItem → (served : ℕ) → (sets roms : List ℕ) → ℕ → SdrrCsSet → Mangled
+mangleAddress pins served sets roms address levels =
+    pick (not (eqb (pins .number) 0)) (unmangled 70)
+    (pick (eqb served 0) (unmangled 71)
+    (pick (not (hasSetRow sets 0)) (unmangled 4)
+    (pick (not (eqb (romCount sets 0) 0) && badRomRow roms (firstRom sets 0)) (unmangled 4)
+    (mangleCore (pins .pins) (romCount sets 0) (romTypeOf (typeWord roms (firstRom sets 0))) address levels))))
 
 -- 70: no pins. Then 79.
-unfoldable pub demangleByte : Lent → ℕ → Demangled
-demangleByte l byte = pick (not (eqb (l .pins .number) 0)) (record { number = 70; value = 0 }) (demangle (l .pins .pins .«data») byte)
+unfoldable pub demangleByte : PinsItem → ℕ → Demangled
+demangleByte pins byte = pick (not (eqb (pins .number) 0)) (record { number = 70; value = 0 }) (demangle (pins .pins .«data») byte)
 
 -- ---- size
 
 abbrev pub unvalued : ℕ → Valued
 unvalued n = record { number = n; value = 0 }
 
--- 80: no such set. 4: its row.
-abbrev pub setNumber : Lent → ℕ → ℕ
-setNumber l i = pick (leb (l .served) i) 80 (pick (not (hasSetRow l i)) 4 0)
+-- 80: no such set. 4: its row. 0: neither.
+abbrev pub setNumber : (served : ℕ) → List ℕ → ℕ → ℕ
+setNumber served sets i = pick (leb served i) 80 (pick (not (hasSetRow sets i)) 4 0)
 
-unfoldable pub sizeCall : Lent → ℕ → Valued
-sizeCall l i = pick (eqb (setNumber l i) 0) (record { number = 0; value = sizeOf l i }) (unvalued (setNumber l i))
+unfoldable pub sizeCall : (served : ℕ) → List ℕ → ℕ → Valued
+sizeCall served sets i = pick (eqb (setNumber served sets i) 0) (record { number = 0; value = sizeOf sets i }) (unvalued (setNumber served sets i))
+
+-- ---- all that later calls look at
+
+-- Of the report the line, the pins item and the sets served; and the rows, in words.
+-- 01 coins "lent" for memory that a caller hands to a call, and "served" for the sets that 71 and 80 go by.
+pub record Lent : Type 0 where
+  pub line : McuLine
+  pub pins : PinsItem
+  pub served : ℕ
+  pub setWords : List ℕ
+  pub romWords : List ℕ

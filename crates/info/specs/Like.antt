@@ -27,7 +27,7 @@ pub record Like (l m : Lent) : Type 0 where
   pub served : l .served ≡ m .served
   pub set-words : l .setWords ≡ m .setWords
   pub rom-rows : length (l .romWords) ≡ length (m .romWords)
-  pub types : (row : ℕ) → typeWord l row ≡ typeWord m row
+  pub types : (row : ℕ) → typeWord (l .romWords) row ≡ typeWord (m .romWords) row
 
 abbrev EndedBytes : Bytes → Type 0
 EndedBytes b = b .number ≡ 2
@@ -50,32 +50,32 @@ byte-address : (l : Lent) (base set : ℕ) (a : Mangled) (x : List ℕ) → run 
 unfolding run
 byte-address l base set a x e = go (eqb (a .number) 0) refl e
   where
-    go : (b : Bool) → eqb (a .number) 0 ≡ b → run (pick b (dataP base l set (a .value) 1) (done (noBytes (a .number)))) x .number ≡ 0 → a .number ≡ 0
+    go : (b : Bool) → eqb (a .number) 0 ≡ b → run (pick b (dataP base (l .served) (l .setWords) set (a .value) 1) (done (noBytes (a .number)))) x .number ≡ 0 → a .number ≡ 0
     go true h i = eqb-true (a .number) 0 h
     go false h i = i
 
 module _ {l m : Lent} (like : Like l m) where
   -- an accepted mangling has accepted pins
-  mangle-pins : (address : ℕ) (levels : SdrrCsSet) → mangleAddress l address levels .number ≡ 0 → l .pins ≡ m .pins
+  mangle-pins : (address : ℕ) (levels : SdrrCsSet) → mangleAddress (l .pins) (l .served) (l .setWords) (l .romWords) address levels .number ≡ 0 → l .pins ≡ m .pins
   unfolding mangleAddress
   mangle-pins address levels e =
       ⊎-elim (λ (h : l .pins .number ≡ 2). absurd (let z : _≡_ {A = ℕ} 70 0 = rw (ne-eqb (l .pins .number) 0 (λ (f : l .pins .number ≡ 0). clash h f)) at e in omega arith)) (λ h. h) (like .pins)
 
-  mangle-like : (address : ℕ) (levels : SdrrCsSet) → mangleAddress l address levels .number ≡ 0 → mangleAddress l address levels ≡ mangleAddress m address levels
+  mangle-like : (address : ℕ) (levels : SdrrCsSet) → mangleAddress (l .pins) (l .served) (l .setWords) (l .romWords) address levels .number ≡ 0 → mangleAddress (l .pins) (l .served) (l .setWords) (l .romWords) address levels ≡ mangleAddress (m .pins) (m .served) (m .setWords) (m .romWords) address levels
   unfolding mangleAddress
   mangle-like address levels e =
       let p = mangle-pins address levels e in
-      let t = like .types (firstRom l 0) in
+      let t = like .types (firstRom (l .setWords) 0) in
       rw (t, like .rom-rows, like .set-words, like .served, p)
 
   -- demangling goes by the pins alone
-  demangle-like : (b : ℕ) → demangleByte l b .number ≡ 0 → demangleByte l b ≡ demangleByte m b
+  demangle-like : (b : ℕ) → demangleByte (l .pins) b .number ≡ 0 → demangleByte (l .pins) b ≡ demangleByte (m .pins) b
   unfolding demangleByte
   demangle-like b e =
       ⊎-elim (λ (h : l .pins .number ≡ 2). absurd (let z : _≡_ {A = ℕ} 70 0 = rw (ne-eqb (l .pins .number) 0 (λ (f : l .pins .number ≡ 0). clash h f)) at e in omega arith))
       (λ (h : l .pins ≡ m .pins). rw h) (like .pins)
 
-  data-like : (base set offset n : ℕ) → dataP base l set offset n ≡ dataP base m set offset n
+  data-like : (base set offset n : ℕ) → dataP base (l .served) (l .setWords) set offset n ≡ dataP base (m .served) (m .setWords) set offset n
   unfolding dataP
   data-like base set offset n = rw (like .set-words, like .served)
 
@@ -85,18 +85,18 @@ module _ {l m : Lent} (like : Like l m) where
   stored-like base (range set offset n) x e = rw (data-like base set offset n)
   stored-like base (byte set (SdrrAddress.Raw offset) d) x e = rw (data-like base set offset 1)
   stored-like base (byte set (SdrrAddress.Logical address levels) d) x e =
-      let accepted = byte-address l base set (mangleAddress l address levels) x e in
-      rw (mangle-like address levels accepted, data-like base set (mangleAddress m address levels .value) 1)
+      let accepted = byte-address l base set (mangleAddress (l .pins) (l .served) (l .setWords) (l .romWords) address levels) x e in
+      rw (mangle-like address levels accepted, data-like base set (mangleAddress (m .pins) (m .served) (m .setWords) (m .romWords) address levels .value) 1)
 
   shown-like : (r : RomRead) (b : Bytes) → shownOf l r b .number ≡ 0 → shownOf l r b ≡ shownOf m r b
   unfolding shownByte
   shown-like (range set offset n) b e = refl
   shown-like (byte set a false) b e = refl
-  shown-like (byte set a true) b e = go (eqb (demangleByte l (getD (b .bytes) 0 0) .number) 0) refl
+  shown-like (byte set a true) b e = go (eqb (demangleByte (l .pins) (getD (b .bytes) 0 0) .number) 0) refl
     where
-      go : (c : Bool) → eqb (demangleByte l (getD (b .bytes) 0 0) .number) 0 ≡ c → shownOf l (byte set a true) b ≡ shownOf m (byte set a true) b
+      go : (c : Bool) → eqb (demangleByte (l .pins) (getD (b .bytes) 0 0) .number) 0 ≡ c → shownOf l (byte set a true) b ≡ shownOf m (byte set a true) b
       go true h = rw (demangle-like (getD (b .bytes) 0 0) (eqb-true _ 0 h))
-      go false h = absurd (let i : demangleByte l (getD (b .bytes) 0 0) .number ≡ 0 = rw h at e in let z : eqb (demangleByte l (getD (b .bytes) 0 0) .number) 0 ≡ true = eq-eqb _ 0 i in let y : _≡_ {A = ℕ} 0 1 = cc in omega arith)
+      go false h = absurd (let i : demangleByte (l .pins) (getD (b .bytes) 0 0) .number ≡ 0 = rw h at e in let z : eqb (demangleByte (l .pins) (getD (b .bytes) 0 0) .number) 0 ≡ true = eq-eqb _ 0 i in let y : _≡_ {A = ℕ} 0 1 = cc in omega arith)
 
   finished-like : (count : ℕ) (r : RomRead) (b : Bytes) → finished l count r b .number ≡ 0 → finished l count r b ≡ finished m count r b
   unfolding finished
@@ -123,7 +123,7 @@ finished-ended : (l : Lent) (count : ℕ) (r : RomRead) (b : Bytes) → EndedByt
 unfolding finished
 finished-ended l count r b e = rw (ne-eqb (b .number) 0 (λ (f : b .number ≡ 0). clash e f)) e
 
-data-honest : (base : ℕ) (l : Lent) (set offset n : ℕ) → Honest EndedBytes (dataP base l set offset n)
+data-honest : (base : ℕ) (l : Lent) (set offset n : ℕ) → Honest EndedBytes (dataP base (l .served) (l .setWords) set offset n)
 unfolding dataP
 data-honest base l set offset n = search honesty
 
@@ -136,7 +136,7 @@ pub read-honest : (base : ℕ) (l : Lent) (count : ℕ) (r : RomRead) → Honest
 unfolding readP
 read-honest base l count r = honest-map (finished l count r) (stored-honest base l r) (finished-ended l count r)
 
-data-unserved : (base : ℕ) (l : Lent) (set offset n : ℕ) (x : List ℕ) → l .served ≡ 0 → run (dataP base l set offset n) x .number ≡ 80
+data-unserved : (base : ℕ) (l : Lent) (set offset n : ℕ) (x : List ℕ) → l .served ≡ 0 → run (dataP base (l .served) (l .setWords) set offset n) x .number ≡ 80
 unfolding dataP run
 data-unserved base l set offset n x e = rw (e, le-leb 0 set (omega arith)) refl
 
@@ -145,7 +145,7 @@ unfolding storedP run
 stored-unserved base l (range set offset n) x e h = let z = data-unserved base l set offset n x e in omega arith
 stored-unserved base l (byte set a d) x e h = go (eqb (physical l a .number) 0) refl h
   where
-    go : (b : Bool) → eqb (physical l a .number) 0 ≡ b → run (pick b (dataP base l set (physical l a .value) 1) (done (noBytes (physical l a .number)))) x .number ≡ 0 → ⊥
+    go : (b : Bool) → eqb (physical l a .number) 0 ≡ b → run (pick b (dataP base (l .served) (l .setWords) set (physical l a .value) 1) (done (noBytes (physical l a .number)))) x .number ≡ 0 → ⊥
     go true i j = let z = data-unserved base l set (physical l a .value) 1 x e in omega arith
     go false i j = let z : eqb (physical l a .number) 0 ≡ true = eq-eqb _ 0 j in let y : _≡_ {A = ℕ} 0 1 = cc in omega arith
 

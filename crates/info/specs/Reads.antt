@@ -24,11 +24,11 @@ abbrev pub noBytes : ℕ → Bytes
 noBytes n = record { number = n; bytes = [] }
 
 -- 80: no such set. 4: its row. 81: offset plus length above set size. 2: ended.
-unfoldable pub dataP : ℕ → Lent → ℕ → ℕ → ℕ → Prog Bytes
-dataP base l set offset n =
-    pick (not (eqb (setNumber l set) 0)) (done (noBytes (setNumber l set)))
-    (pick (ltb (sizeOf l set) (offset + n)) (done (noBytes 81))
-    (fetch base (dataPointer l set + offset) n (noBytes 2) λ bs. done (record { number = 0; bytes = bs })))
+unfoldable pub dataP : ℕ → (served : ℕ) → List ℕ → ℕ → ℕ → ℕ → Prog Bytes
+dataP base served sets set offset n =
+    pick (not (eqb (setNumber served sets set) 0)) (done (noBytes (setNumber served sets set)))
+    (pick (ltb (sizeOf sets set) (offset + n)) (done (noBytes 81))
+    (fetch base (dataPointer sets set + offset) n (noBytes 2) λ bs. done (record { number = 0; bytes = bs })))
 
 -- 82: the served count would pass 4,294,967,295
 unfoldable pub countNumber : ℕ → ℕ → ℕ
@@ -38,9 +38,9 @@ countNumber count n = pick (ltb 4294967295 (count + n)) 82 0
 unfoldable pub shownByte : Lent → Bool → Bytes → Bytes
 shownByte l false b = b
 shownByte l true b =
-    pick (eqb (demangleByte l (getD (b .bytes) 0 0) .number) 0)
-    (record { number = 0; bytes = demangleByte l (getD (b .bytes) 0 0) .value ∷ [] })
-    (noBytes (demangleByte l (getD (b .bytes) 0 0) .number))
+    pick (eqb (demangleByte (l .pins) (getD (b .bytes) 0 0) .number) 0)
+    (record { number = 0; bytes = demangleByte (l .pins) (getD (b .bytes) 0 0) .value ∷ [] })
+    (noBytes (demangleByte (l .pins) (getD (b .bytes) 0 0) .number))
 
 -- ---- the reads
 
@@ -57,14 +57,14 @@ lengthOf (byte set a demangled) = 1
 -- a logical address runs mangling first; a raw address skips it
 abbrev pub physical : Lent → SdrrAddress → Mangled
 physical l (SdrrAddress.Raw offset) = record { number = 0; value = offset }
-physical l (SdrrAddress.Logical address levels) = mangleAddress l address levels
+physical l (SdrrAddress.Logical address levels) = mangleAddress (l .pins) (l .served) (l .setWords) (l .romWords) address levels
 
 abbrev pub byteP : ℕ → Lent → ℕ → Mangled → Prog Bytes
-byteP base l set m = pick (eqb (m .number) 0) (dataP base l set (m .value) 1) (done (noBytes (m .number)))
+byteP base l set m = pick (eqb (m .number) 0) (dataP base (l .served) (l .setWords) set (m .value) 1) (done (noBytes (m .number)))
 
 -- the bytes from the image: mangling where the address is logical, then ROM data
 unfoldable pub storedP : ℕ → Lent → RomRead → Prog Bytes
-storedP base l (range set offset n) = dataP base l set offset n
+storedP base l (range set offset n) = dataP base (l .served) (l .setWords) set offset n
 storedP base l (byte set a demangled) = byteP base l set (physical l a)
 
 -- then 82, then demangling

@@ -7,7 +7,7 @@ use lib.ListN.{length, drop}
 use Rattle.le.specs.Choice.{pick}
 use Rattle.walk.specs.Rows.{romWidth}
 use Rattle.info.specs.declared.Valued.{Valued}
-use Rattle.info.specs.Lent.{Lent, hasSetRow, firstRom, romCount, sizeOf, serveOf, unvalued}
+use Rattle.info.specs.Lent.{hasSetRow, firstRom, romCount, sizeOf, serveOf, unvalued}
 
 -- the types of the first n ROM rows of some words, as far as these go
 unfoldable pub typesIn : List ℕ → ℕ → List ℕ
@@ -16,23 +16,23 @@ typesIn [] (suc n) = []
 typesIn (t ∷ words) (suc n) = t ∷ typesIn (drop (pred romWidth) words) n
 
 -- the types of a set's ROM rows, in order
-abbrev pub types : Lent → ℕ → List ℕ
-types l i = typesIn (drop (romWidth * firstRom l i) (l .romWords)) (romCount l i)
+abbrev pub types : (sets roms : List ℕ) → ℕ → List ℕ
+types sets roms i = typesIn (drop (romWidth * firstRom sets i) roms) (romCount sets i)
 
 unfoldable pub anyAbove33 : List ℕ → Bool
 anyAbove33 [] = false
 anyAbove33 (t ∷ ts) = ltb 33 t || anyAbove33 ts
 
 -- 4: the set's row or one of its ROM rows isn't among those lent, or a type is above 33
-unfoldable pub badSet : Lent → ℕ → Bool
-badSet l i =
-    not (hasSetRow l i)
-    || (ltb 0 (romCount l i)
-    && (ltb (length (l .romWords)) (romWidth * (firstRom l i + romCount l i)) || anyAbove33 (types l i)))
+unfoldable pub badSet : (sets roms : List ℕ) → ℕ → Bool
+badSet sets roms i =
+    not (hasSetRow sets i)
+    || (ltb 0 (romCount sets i)
+    && (ltb (length roms) (romWidth * (firstRom sets i + romCount sets i)) || anyAbove33 (types sets roms i)))
 
 -- what two sets are compared by: size, ROM count, serve, every type in order
-unfoldable pub compared : Lent → ℕ → List ℕ
-compared l i = sizeOf l i ∷ romCount l i ∷ serveOf l i ∷ types l i
+unfoldable pub compared : (sets roms : List ℕ) → ℕ → List ℕ
+compared sets roms i = sizeOf sets i ∷ romCount sets i ∷ serveOf sets i ∷ types sets roms i
 
 unfoldable pub equal : List ℕ → List ℕ → Bool
 equal [] [] = true
@@ -41,8 +41,8 @@ equal (a ∷ s) [] = false
 equal (a ∷ s) (b ∷ t) = eqb a b && equal s t
 
 -- 80: either is no set. 4: either set. Then yes (1) exactly if all that is compared agrees.
-unfoldable pub sameSet : Lent → ℕ → ℕ → Valued
-sameSet l a b =
-    pick (leb (l .served) a || leb (l .served) b) (unvalued 80)
-    (pick (badSet l a || badSet l b) (unvalued 4)
-    (record { number = 0; value = pick (equal (compared l a) (compared l b)) 1 0 }))
+unfoldable pub sameSet : (served : ℕ) → (sets roms : List ℕ) → ℕ → ℕ → Valued
+sameSet served sets roms a b =
+    pick (leb served a || leb served b) (unvalued 80)
+    (pick (badSet sets roms a || badSet sets roms b) (unvalued 4)
+    (record { number = 0; value = pick (equal (compared sets roms a) (compared sets roms b)) 1 0 }))

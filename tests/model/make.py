@@ -11,11 +11,14 @@ A line of stdin: a letter for the kind, then numbers of eight hexadecimal digits
     e base pointer major minor patch build image    extra info
     m base pointer image     metadata
     p base pointer image     pins
-tests/data/*-vectors.jsonl are answers of another reader of document 01; where the two differ, this script stops.
+    d pins-number byte data-pins                    demangling: number, value
+    g pins-number served set-words rom-words first count type address levels pins    mangling: number, value
+    G the same without levels                       all 32 levels, CS1 changing fastest
+tests/data/*-vectors.jsonl and tests/data/mangle-vectors.txt are answers of another reader of document 01; where the two differ, this script stops.
 """
 import json, os, random, struct
 
-import records, runtime
+import mangle, records, runtime
 
 TOP = os.path.join(os.path.dirname(os.path.abspath(__file__)), "..", "..")
 B = 0x08000000
@@ -190,11 +193,23 @@ def main():
         out.append((line("m", base, pointer, image), records.metadata(image, base, pointer)))
     for image, base, pointer in pins_cases():
         out.append((line("p", base, pointer, image), records.pins(image, base, pointer)))
+    for text in open(os.path.join(TOP, "tests/data/mangle-vectors.txt")):
+        parts = text.split()
+        kind, numbers, pins, reply = parts[0], [int(n, 16) for n in parts[1:-3]], bytes.fromhex(parts[-3]), tuple(map(int, parts[-2:]))
+        given = (*numbers, pins)
+        assert mangle.answer(kind, given) == reply, text
+        out.append((line(kind, *given), reply))
+    for given in mangle.all_levels():
+        answers = []
+        for i in range(32):
+            levels = sum((i >> k & 1) << 4 * k for k in range(5))
+            answers += mangle.answer("g", (*given[:-1], levels, given[-1]))
+        out.append((line("G", *given), answers))
     crate = os.path.join(TOP, "crates/vectors")
     with open(os.path.join(crate, "stdin"), "w") as i, open(os.path.join(crate, "stdout"), "w") as o:
         for given, answer in out:
             i.write(given + "\n")
-            o.write(" ".join(map(str, answer)) + "\n")
+            o.write(" ".join(map(str, answer)) + (" \n" if given[0] == "G" else "\n"))
     with open(os.path.join(TOP, "tests/data/runtime.txt"), "w") as o:
         for s in shown:
             o.write("%s|%s\n" % (s.hex(), "|".join(runtime.text(s))))

@@ -16,7 +16,7 @@ pub struct Settings {
 pub struct SetsItem {
     pub number: u8,
     pub rom_set_count: u8,
-    pub served: u8,
+    pub served: u32,
 }
 
 // The report.

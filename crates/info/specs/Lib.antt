@@ -3,3 +3,4 @@ pub mod Reads
 pub mod Same
 pub mod Like
 pub mod History
+pub mod Steps

@@ -1,6 +1,6 @@
 -- Document 01, "Mangling": base-zero. The pins of a record, counted from the least of them.
 use Prim.Native.Nat.{ℕ, _-_}
-use mathlib.Core.Bool.{Bool, true, false}
+use mathlib.Core.Bool.{Bool}
 use mathlib.Core.List.{List, [], _∷_, map}
 use lib.Dec.{ltb, eqb}
 use Rattle.le.specs.Choice.{pick}

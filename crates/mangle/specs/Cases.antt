@@ -9,12 +9,11 @@ use Rattle.types.specs.declared.SdrrMcuPort.{SdrrMcuPort}
 use Rattle.types.specs.declared.SdrrRomType.{SdrrRomType}
 use Rattle.types.specs.declared.SdrrCsSet.{SdrrCsSet}
 use Rattle.pins.specs.declared.SdrrPins.{SdrrPins}
-use Rattle.mangle.specs.declared.Mangled.{Mangled}
 use Rattle.mangle.specs.BaseZero.{leastOf, lowered, leastPin, loweredBy, baseZero}
 use Rattle.mangle.specs.Bits.{bitAt, taken, gather}
 use Rattle.mangle.specs.Demangle.{allBelow, demangle}
 use Rattle.mangle.specs.Mangle.{raised, inputWord, mangleNumber, mangleBy, mangleOf, mangleCore}
-use Rattle.mangle.specs.PinMap.{withAddress, xOff, xTaken, withX, controlOff, withControl, withControls, mapNumber, wholeMap, mapOf, pinMap}
+use Rattle.mangle.specs.PinMap.{withAddress, withX, controlOff, withControl, withControls, mapNumber, wholeMap, mapBy, mapOf, pinMap}
 use Rattle.mangle.specs.Rules.{rulesOf, drives}
 
 -- data pins 7..0, byte 1
@@ -80,20 +79,20 @@ given c1 c2 = record { cs1 = c1; cs2 = c2; cs3 = Level.NotGiven; x1 = Level.NotG
 
 -- address 5, CS1 high
 pub M1 : mangleCore (board2364 0) 1 SdrrRomType.Rom2364 5 (given Level.High Level.NotGiven) ≡ record { number = 0; value = 8197 }
-unfolding mangleCore mangleOf mangleBy mangleNumber inputWord raised drives rulesOf gather taken bitAt isHigh romTypeNumber pinMap mapOf mapNumber wholeMap xOff xTaken withX withAddress controlOff withControl withControls baseZero loweredBy leastPin leastOf lowered
+unfolding mangleCore mangleOf mangleBy mangleNumber inputWord raised drives rulesOf gather taken bitAt isHigh romTypeNumber pinMap mapOf mapBy mapNumber wholeMap withX withAddress controlOff withControl withControls baseZero loweredBy leastPin leastOf lowered
 M1 = refl
 
 -- all those pins raised by 8
 pub M2 : mangleCore (board2364 8) 1 SdrrRomType.Rom2364 5 (given Level.High Level.NotGiven) ≡ record { number = 0; value = 8197 }
-unfolding mangleCore mangleOf mangleBy mangleNumber inputWord raised drives rulesOf gather taken bitAt isHigh romTypeNumber pinMap mapOf mapNumber wholeMap xOff xTaken withX withAddress controlOff withControl withControls baseZero loweredBy leastPin leastOf lowered
+unfolding mangleCore mangleOf mangleBy mangleNumber inputWord raised drives rulesOf gather taken bitAt isHigh romTypeNumber pinMap mapOf mapBy mapNumber wholeMap withX withAddress controlOff withControl withControls baseZero loweredBy leastPin leastOf lowered
 M2 = refl
 
 -- address 8192
 pub M3 : mangleCore (board2364 0) 1 SdrrRomType.Rom2364 8192 (given Level.High Level.NotGiven) ≡ record { number = 77; value = 0 }
-unfolding mangleCore mangleOf mangleBy mangleNumber rulesOf pinMap mapOf mapNumber wholeMap xOff xTaken withX withAddress controlOff withControl withControls baseZero loweredBy leastPin leastOf lowered
+unfolding mangleCore mangleOf mangleBy mangleNumber rulesOf pinMap mapOf mapBy mapNumber wholeMap withX withAddress controlOff withControl withControls baseZero loweredBy leastPin leastOf lowered
 M3 = refl
 
 -- address pins 0..10, CS2 11, CS3 12, CS1 13: address 0, CS2 high alone
 pub M4 : mangleCore (board (eleven ++ replicate 5 255) 13 11 12) 1 SdrrRomType.Rom2316 0 (given Level.NotGiven Level.High) ≡ record { number = 0; value = 4096 }
-unfolding mangleCore mangleOf mangleBy mangleNumber inputWord raised drives rulesOf gather taken bitAt isHigh romTypeNumber pinMap mapOf mapNumber wholeMap xOff xTaken withX withAddress controlOff withControl withControls baseZero loweredBy leastPin leastOf lowered
+unfolding mangleCore mangleOf mangleBy mangleNumber inputWord raised drives rulesOf gather taken bitAt isHigh romTypeNumber pinMap mapOf mapBy mapNumber wholeMap withX withAddress controlOff withControl withControls baseZero loweredBy leastPin leastOf lowered
 M4 = refl

@@ -1,6 +1,6 @@
 -- Document 01, "Mangling": demangling. Logic bit i is the byte's bit at data pin i.
 use Prim.Native.Nat.{ℕ}
-use mathlib.Core.Bool.{Bool, true, false, not, _&&_}
+use mathlib.Core.Bool.{Bool, true, _&&_}
 use mathlib.Core.List.{List, [], _∷_}
 use lib.Dec.{ltb}
 use Rattle.le.specs.Choice.{pick}

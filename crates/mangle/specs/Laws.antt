@@ -1,12 +1,12 @@
 -- What the definitions of mangling and demangling say of each bit of the answer.
 -- Assumes nothing.
-use Prim.Native.Nat.{ℕ, zero, suc, _+_, _*_, _/_, _%_, _^_, _≤_, _<_}
+use Prim.Native.Nat.{ℕ, zero, suc, _+_, _*_, _/_, _^_, _<_}
 use native.Mathlib.Nat.{mod-lt, div-one, zero-div, pow-suc, not-suc-le-zero, le-of-suc-le-suc}
 use native.Mathlib.Numerals.{one-add}
 use native.Mathlib.Omega.{arith}
-use mathlib.Core.Path.{_≡_, refl, _∙_, sym, ap}
+use mathlib.Core.Path.{_≡_, refl, _∙_}
 use mathlib.Core.Logic.{_↔_}
-use mathlib.Core.Bool.{Bool, true, false, not, _&&_, false≢true}
+use mathlib.Core.Bool.{Bool, true, false, _&&_, false≢true}
 use mathlib.Core.List.{List, [], _∷_}
 use lib.Dec.{ltb, eqb}
 use lib.ListN.{length, getD, set, length-set}
@@ -19,7 +19,7 @@ use Rattle.pins.specs.declared.SdrrPins.{SdrrPins}
 use Rattle.mangle.specs.Bits.{bitAt, taken, gather}
 use Rattle.mangle.specs.Rules.{none, isBit, controlBits, several}
 use Rattle.mangle.specs.BaseZero.{baseZero}
-use Rattle.mangle.specs.PinMap.{unmapped, withAddress, addressMap, withX, controlPins, withControl, withControls, mapNumber, wholeMap, mapOf, pinMap}
+use Rattle.mangle.specs.PinMap.{unmapped, withAddress, addressMap, withX, controlPins, withControl, withControls, mapNumber, wholeMap, mapBy, mapOf, pinMap}
 use Rattle.mangle.specs.Mangle.{levels, inputWord, place, mangleNumber, mangleBy, mangleOf, mangleCore}
 use Rattle.mangle.specs.Demangle.{allBelow, demangle}
 
@@ -94,9 +94,9 @@ unfolding withAddress
 address-length [] i m = refl
 address-length (p ∷ ps) i m = address-length ps (suc i) (set m p i) ∙ length-set m p i
 
-x-length : (pins : SdrrPins) (m : List ℕ) → length (withX pins m) ≡ length m
+x-length : (m : List ℕ) (x1 x2 : ℕ) → length (withX m x1 x2) ≡ length m
 unfolding withX
-x-length pins m = simp length-set
+x-length m x1 x2 = simp length-set
 
 pick-length : (b : Bool) (l m : List ℕ) → length l ≡ length m → length (pick b l m) ≡ length m
 pick-length true l m h = h
@@ -112,18 +112,21 @@ control-length [] bs m = refl
 control-length (p ∷ ps) [] m = refl
 control-length (p ∷ ps) (b ∷ bs) m = control-length ps bs (withControl m p b) ∙ one-length m p b
 
-whole-length : (pins : SdrrPins) (count : ℕ) (type : SdrrRomType) → length (wholeMap pins count type) ≡ 16
+whole-length : (m : List ℕ) (x1 x2 : ℕ) (controls : List ℕ) (count : ℕ) (type : SdrrRomType)
+    → length (wholeMap m x1 x2 controls count type) ≡ length m
 unfolding wholeMap
-whole-length pins count type =
-    let m = addressMap pins in
-    let e = control-length (controlPins pins) (controlBits type) (pick (several count) (withX pins m) m) in
-    e ∙ (pick-length (several count) (withX pins m) m (x-length pins m) ∙ address-length (pins .addr) 0 unmapped)
+whole-length m x1 x2 controls count type =
+    control-length controls (controlBits type) (pick (several count) (withX m x1 x2) m)
+    ∙ pick-length (several count) (withX m x1 x2) m (x-length m x1 x2)
 
 pub map-length : (pins : SdrrPins) (count : ℕ) (type : SdrrRomType) → length (pinMap pins count type .map) ≡ 16
-unfolding pinMap mapOf
+unfolding pinMap mapOf mapBy
 map-length pins count type =
     let p = baseZero pins in
-    pick-length (eqb (mapNumber p count type) 0) (wholeMap p count type) unmapped (whole-length p count type)
+    let m = addressMap (p .addr) in
+    let w = wholeMap m (p .x1) (p .x2) (controlPins p) count type in
+    let h = whole-length m (p .x1) (p .x2) (controlPins p) count type in
+    pick-length (eqb (mapNumber m (p .x1) (p .x2) (controlPins p) count type) 0) w unmapped (h ∙ address-length (p .addr) 0 unmapped)
 
 pick-lt : (b : Bool) (x y n : ℕ) → x < n → y < n → pick b x y < n
 pick-lt true x y n h k = h
@@ -140,7 +143,7 @@ mangled-lt pins count type address set =
 
 -- with no ROM it is 74, whatever the type
 pub no-rom : (pins : SdrrPins) (type : SdrrRomType) (address : ℕ) (set : SdrrCsSet) → mangleCore pins 0 type address set ≡ record { number = 74; value = 0 }
-unfolding mangleCore mangleOf mangleBy mangleNumber pinMap mapOf mapNumber
+unfolding mangleCore mangleOf mangleBy mangleNumber pinMap mapOf mapBy mapNumber
 no-rom pins type address set = refl
 
 -- ---- demangling

@@ -1,6 +1,6 @@
 -- Document 01, "Mangling": a logical address with its levels becomes an input word, whose bits are placed on the sixteen pins.
 use Prim.Native.Nat.{ℕ, _^_}
-use mathlib.Core.Bool.{Bool, true, false, not}
+use mathlib.Core.Bool.{Bool, not}
 use mathlib.Core.List.{List, [], _∷_}
 use lib.Bits.{bitOr}
 use lib.Dec.{ltb, eqb}

@@ -1,6 +1,6 @@
 -- Document 01, "Mangling": the sixteen-pin map, which says of each pin the input bit that it takes, and 72 to 76.
 use Prim.Native.Nat.{ℕ, suc}
-use mathlib.Core.Bool.{Bool, true, false, not, _&&_, _||_}
+use mathlib.Core.Bool.{Bool, false, not, _&&_, _||_}
 use mathlib.Core.List.{List, [], _∷_}
 use lib.Dec.{leb, eqb}
 use lib.ListN.{getD, set}
@@ -21,32 +21,24 @@ unfoldable pub withAddress : List ℕ → ℕ → List ℕ → List ℕ
 withAddress [] i m = m
 withAddress (p ∷ ps) i m = withAddress ps (suc i) (set m p i)
 
-abbrev pub addressMap : SdrrPins → List ℕ
-addressMap pins = withAddress (pins .addr) 0 unmapped
+abbrev pub addressMap : List ℕ → List ℕ
+addressMap addr = withAddress addr 0 unmapped
 
 abbrev pub off : ℕ → Bool
 off pin = leb 16 pin
 
--- 72: X1 or X2 at 16 or above
-unfoldable pub xOff : SdrrPins → Bool
-xOff pins = off (pins .x1) || off (pins .x2)
-
 abbrev pub isMapped : List ℕ → ℕ → Bool
 isMapped m pin = isBit (getD m pin none)
 
--- 73: X1 or X2 already mapped
-unfoldable pub xTaken : SdrrPins → List ℕ → Bool
-xTaken pins m = isMapped m (pins .x1) || isMapped m (pins .x2)
-
 -- X1 takes input bit 14, X2 takes 15; X2 wins where they are one pin
-unfoldable pub withX : SdrrPins → List ℕ → List ℕ
-withX pins m = set (set m (pins .x1) 14) (pins .x2) 15
+unfoldable pub withX : List ℕ → (x1 x2 : ℕ) → List ℕ
+withX m x1 x2 = set (set m x1 14) x2 15
 
 -- the control pins in the order of controlBits
 abbrev pub controlPins : SdrrPins → List ℕ
 controlPins pins = pins .cs1 ∷ pins .cs2 ∷ pins .cs3 ∷ pins .oe ∷ pins .ce ∷ []
 
--- 76: a control pin that has an input bit, at 16 or above
+-- a control pin that has an input bit, at 16 or above
 unfoldable pub controlOff : List ℕ → List ℕ → Bool
 controlOff [] bs = false
 controlOff (p ∷ ps) [] = false
@@ -61,27 +53,30 @@ withControls [] bs m = m
 withControls (p ∷ ps) [] m = m
 withControls (p ∷ ps) (b ∷ bs) m = withControls ps bs (withControl m p b)
 
--- 0 where none of 72 to 76 applies, else the first that does; the pins are counted from zero
-unfoldable pub mapNumber : SdrrPins → ℕ → SdrrRomType → ℕ
-mapNumber pins count type =
-    pick (several count && xOff pins) 72
-    (pick (several count && xTaken pins (addressMap pins)) 73
+-- the first of 72 to 76 that applies, or 0; m is the map of the address bits
+unfoldable pub mapNumber : List ℕ → (x1 x2 : ℕ) → List ℕ → ℕ → SdrrRomType → ℕ
+mapNumber m x1 x2 controls count type =
+    pick (several count && (off x1 || off x2)) 72
+    (pick (several count && (isMapped m x1 || isMapped m x2)) 73
     (pick (eqb count 0) 74
     (pick (not (rulesOf type .supported)) 75
-    (pick (controlOff (controlPins pins) (controlBits type)) 76 0))))
+    (pick (controlOff controls (controlBits type)) 76 0))))
 
 -- address, X1 and X2 with several ROMs, then the type's control pins
-unfoldable pub wholeMap : SdrrPins → ℕ → SdrrRomType → List ℕ
-wholeMap pins count type =
-    withControls (controlPins pins) (controlBits type) (pick (several count) (withX pins (addressMap pins)) (addressMap pins))
+unfoldable pub wholeMap : List ℕ → (x1 x2 : ℕ) → List ℕ → ℕ → SdrrRomType → List ℕ
+wholeMap m x1 x2 controls count type = withControls controls (controlBits type) (pick (several count) (withX m x1 x2) m)
 
-unfoldable pub mapOf : SdrrPins → ℕ → SdrrRomType → PinMap
-mapOf pins count type =
+unfoldable pub mapBy : List ℕ → (x1 x2 : ℕ) → List ℕ → ℕ → SdrrRomType → PinMap
+mapBy m x1 x2 controls count type =
     record {
-      number = mapNumber pins count type;
-      map = pick (eqb (mapNumber pins count type) 0) (wholeMap pins count type) unmapped;
+      number = mapNumber m x1 x2 controls count type;
+      map = pick (eqb (mapNumber m x1 x2 controls count type) 0) (wholeMap m x1 x2 controls count type) unmapped;
     }
 
--- the map of a pins record as it stands
+-- of pins that are counted from zero
+unfoldable pub mapOf : SdrrPins → ℕ → SdrrRomType → PinMap
+mapOf pins count type = mapBy (addressMap (pins .addr)) (pins .x1) (pins .x2) (controlPins pins) count type
+
+-- of a pins record as it stands
 unfoldable pub pinMap : SdrrPins → ℕ → SdrrRomType → PinMap
 pinMap pins count type = mapOf (baseZero pins) count type

@@ -1,4 +1,17 @@
 // Mangling a logical address and demangling a byte (info.rs `mangle_address`, `demangle_byte`).
+pub mod base; // base-zero
+pub mod rules; // the types
+pub mod bits; // bits of a word
+pub mod map; // the sixteen-pin map
+
+use pins::SdrrPins;
+use types::Level;
+use types::SdrrCsSet;
+use types::SdrrRomType;
+ghost use mathlib.Core.Path.{_≡_};
+ghost use Rattle.types.specs.Types.{isHigh};
+ghost use Rattle.mangle.specs.Mangle.{levels, inputWord, mangleNumber, mangleBy, mangleCore};
+ghost use Rattle.mangle.specs.Demangle.{allBelow, demangle};
 
 // What mangling goes by for a type of ROM. The mask is the largest address. cs1 to ce say to which input bit the
 // control pin goes, by_cs1 to by_cs3 which input bit the level raises; 255: none.
@@ -31,4 +44,121 @@ pub struct Mangled {
 pub struct Demangled {
     pub number: u8,
     pub value: u8,
+}
+
+// A level not given is low.
+fn is_high(level: Level) -> bool
+    ensures { λ r. ⌜ r ≡ isHigh level ⌝ }
+{
+    match level {
+        Level::High => true,
+        Level::NotGiven => false,
+        Level::Low => false,
+    }
+}
+
+// Which of CS1, CS2, CS3, X1, X2 are high.
+fn levels(cs_set: SdrrCsSet) -> [bool; 5]
+    ensures { λ r. ⌜ r ≡ levels «cs_set» ⌝ }
+{
+    let cs1 = cs_set.cs1;
+    let cs2 = cs_set.cs2;
+    let cs3 = cs_set.cs3;
+    let x1 = cs_set.x1;
+    let x2 = cs_set.x2;
+    [
+        is_high(cs1),
+        is_high(cs2),
+        is_high(cs3),
+        is_high(x1),
+        is_high(x2),
+    ]
+}
+
+// The address, with the input bits that high levels drive.
+fn input_word(rom_type: SdrrRomType, rom_count: u32, levels: [bool; 5], address: u32) -> u32
+    ensures { λ r. ⌜ r ≡ inputWord «rom_type» «rom_count» levels address ⌝ }
+{
+    bits::raised(rules::drives(rom_type, rom_count), levels, address)
+}
+
+// The map's number n first, then 77, then 78.
+fn mangle_number(n: u8, rom_type: SdrrRomType, address: u32) -> u8
+    ensures { λ r. ⌜ r ≡ mangleNumber n «rom_type» address ⌝ }
+{
+    let above = rules::mask(rom_type) < address;
+    let c16 = rules::is_28c16(rom_type);
+    bits::pick_num(
+        n != 0,
+        n,
+        bits::pick_num(above, 77, bits::pick_num(c16, 78, 0)),
+    )
+}
+
+// An address with its levels under a map.
+fn mangle_by(
+    map: PinMap,
+    rom_count: u32,
+    rom_type: SdrrRomType,
+    address: u32,
+    levels: [bool; 5],
+) -> Mangled
+    ensures { λ r. ⌜ r ≡ mangleBy map «rom_count» «rom_type» address levels ⌝ }
+{
+    let number = mangle_number(map.number, rom_type, address);
+    if number != 0 {
+        return Mangled {
+            number: number,
+            value: 0,
+        };
+    }
+    let entries = map.map;
+    let word = input_word(rom_type, rom_count, levels, address);
+    Mangled {
+        number: 0,
+        value: bits::place(entries, word),
+    }
+}
+
+// The mangled address, with the ROM count and the first type of the set that governs.
+pub fn mangle_core(
+    pins: SdrrPins,
+    rom_count: u32,
+    rom_type: SdrrRomType,
+    address: u32,
+    cs_set: SdrrCsSet,
+) -> Mangled
+    ensures { λ r. ⌜ r ≡ mangleCore pins «rom_count» «rom_type» address «cs_set» ⌝ }
+{
+    let m = map::pin_map(pins, rom_count, rom_type);
+    mangle_by(m, rom_count, rom_type, address, levels(cs_set))
+}
+
+fn all_below(n: u8, pins: &[u8]) -> bool
+    ensures { λ r. ⌜ r ≡ allBelow n (now (pins .entry)) ⌝ }
+{
+    let mut i: usize = 0;
+    while i < pins.len() {
+        if n <= pins[i] {
+            return false;
+        }
+        i += 1;
+    }
+    true
+}
+
+// The byte as it is served: logic bit i is the byte's bit at data pin i.
+pub fn demangle_core(data: [u8; 8], byte: u8) -> Demangled
+    ensures { λ r. ⌜ r ≡ demangle «data» byte ⌝ }
+{
+    if !all_below(8, &data) {
+        return Demangled {
+            number: 79,
+            value: 0,
+        };
+    }
+    Demangled {
+        number: 0,
+        value: bits::unplace(data, byte),
+    }
 }

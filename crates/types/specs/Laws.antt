@@ -1,12 +1,14 @@
--- Number and case are each other's inverse.
+-- Number and case are each other's inverse; of a number that is none, the first case.
 -- Assumes nothing.
-use Prim.Native.Nat.{ℕ, _<_}
+use Prim.Native.Nat.{ℕ, zero, suc, _≤_, _<_}
+use native.Mathlib.Omega.{arith}
 use mathlib.Core.Path.{_≡_, refl}
+use lib.ListN.{List·getD-eq-default}
 use Rattle.types.specs.declared.McuLine.{McuLine}
 use Rattle.types.specs.declared.McuStorage.{McuStorage}
 use Rattle.types.specs.declared.SdrrMcuPort.{SdrrMcuPort}
 use Rattle.types.specs.declared.SdrrRomType.{SdrrRomType}
-use Rattle.types.specs.Types.{lineNumber, lineOf, storageNumber, storageOf, portNumber, portOf, romTypeNumber, romTypeOf}
+use Rattle.types.specs.Types.{lineNumber, lineOf, storageNumber, storageOf, portNumber, ports, portOf, romTypeNumber, romTypes, romTypeOf}
 
 pub line-again : (v : McuLine) → lineOf (lineNumber v) ≡ v
 unfolding lineOf lineNumber
@@ -73,3 +75,27 @@ rom-type-again SdrrRomType.Rom23QL512 = refl
 rom-type-again SdrrRomType.Rom23QL384 = refl
 rom-type-again SdrrRomType.Rom23C1001 = refl
 rom-type-again SdrrRomType.Rom27C200 = refl
+
+-- a number that is no other port's is None's
+pub port-unknown : (n : ℕ) → (0 < n → 5 < n) → portOf n ≡ SdrrMcuPort.None
+unfolding portOf
+port-unknown zero h = refl
+port-unknown (suc n) h = List·getD-eq-default ports SdrrMcuPort.None (h (omega arith))
+
+-- a number that is no other type's is the first's
+pub rom-type-unknown : (n : ℕ) → (0 < n → 33 < n) → romTypeOf n ≡ SdrrRomType.Rom2316
+unfolding romTypeOf
+rom-type-unknown zero h = refl
+rom-type-unknown (suc n) h = List·getD-eq-default romTypes SdrrRomType.Rom2316 (h (omega arith))
+
+-- a number that is none of 1 to k, as a match leaves it
+abbrev pub NoneOf : ℕ → ℕ → Type 0
+NoneOf n zero = Unit {0}
+NoneOf n (suc k) = NoneOf n k × (n ≡ suc k → ⊥)
+
+next-above : (n k : ℕ) → k < n → (n ≡ suc k → ⊥) → suc k < n
+next-above n k h f = omega arith
+
+pub above : (n k : ℕ) → NoneOf n k → 0 < n → k < n
+above n zero r h = h
+above n (suc k) r h = next-above n k (above n k (r .0) h) (r .1)

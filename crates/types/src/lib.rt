@@ -1,4 +1,6 @@
 // The enums of types.rs, in the order of their numbers.
+ghost use mathlib.Core.Path.{_≡_};
+ghost use Rattle.types.specs.Types.{portOf, romTypeOf};
 
 // The microcontroller line: an STM32F4, or the Rp2350.
 pub enum McuLine {
@@ -30,6 +32,20 @@ pub enum SdrrMcuPort {
     PortC,
     PortD,
     Port0,
+}
+
+// The port of a number; None where there is none of that number.
+pub fn port_of(number: u8) -> SdrrMcuPort
+    ensures { λ r. ⌜ r ≡ portOf number ⌝ }
+{
+    match number {
+        1 => SdrrMcuPort::PortA,
+        2 => SdrrMcuPort::PortB,
+        3 => SdrrMcuPort::PortC,
+        4 => SdrrMcuPort::PortD,
+        5 => SdrrMcuPort::Port0,
+        _ => SdrrMcuPort::None,
+    }
 }
 
 // The type of a ROM.
@@ -68,6 +84,48 @@ pub enum SdrrRomType {
     Rom23QL384,
     Rom23C1001,
     Rom27C200,
+}
+
+// The ROM type of a number; of one above 33, which every caller refuses first, the first type.
+pub fn rom_type_of(number: u32) -> SdrrRomType
+    ensures { λ r. ⌜ r ≡ romTypeOf number ⌝ }
+{
+    match number {
+        1 => SdrrRomType::Rom2332,
+        2 => SdrrRomType::Rom2364,
+        3 => SdrrRomType::Rom23128,
+        4 => SdrrRomType::Rom23256,
+        5 => SdrrRomType::Rom23512,
+        6 => SdrrRomType::Rom2704,
+        7 => SdrrRomType::Rom2708,
+        8 => SdrrRomType::Rom2716,
+        9 => SdrrRomType::Rom2732,
+        10 => SdrrRomType::Rom2764,
+        11 => SdrrRomType::Rom27128,
+        12 => SdrrRomType::Rom27256,
+        13 => SdrrRomType::Rom27512,
+        14 => SdrrRomType::Rom231024,
+        15 => SdrrRomType::Rom27C010,
+        16 => SdrrRomType::Rom27C020,
+        17 => SdrrRomType::Rom27C040,
+        18 => SdrrRomType::Rom27C080,
+        19 => SdrrRomType::Rom27C400,
+        20 => SdrrRomType::Ram6116,
+        21 => SdrrRomType::Rom27C301,
+        22 => SdrrRomType::SystemPlugin,
+        23 => SdrrRomType::UserPlugin,
+        24 => SdrrRomType::PioPlugin,
+        25 => SdrrRomType::RomSst39sf040,
+        26 => SdrrRomType::Rom28C16,
+        27 => SdrrRomType::Rom28C64,
+        28 => SdrrRomType::Rom28C256,
+        29 => SdrrRomType::Rom28C512,
+        30 => SdrrRomType::Rom23QL512,
+        31 => SdrrRomType::Rom23QL384,
+        32 => SdrrRomType::Rom23C1001,
+        33 => SdrrRomType::Rom27C200,
+        _ => SdrrRomType::Rom2316,
+    }
 }
 
 // A control line's level as a caller gives it. One that is not given counts as low.

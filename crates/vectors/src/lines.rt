@@ -41,9 +41,14 @@ pub(crate) fn half(line: &[u8], k: u8) -> u16 {
     (number(line, k) % 65536) as u16
 }
 
+// The number k, which fits 8 bits.
+pub(crate) fn byte_of(line: &[u8], k: u8) -> u8 {
+    (number(line, k) % 256) as u8
+}
+
 // Decodes the bytes behind so many numbers, and says how many there are.
 pub(crate) fn decode(line: &[u8], numbers: usize, bytes: &mut [u8; 4096]) -> usize
-    requires { ⌜ numbers < 8 ⌝ }
+    requires { ⌜ numbers < 16 ⌝ }
     ensures { λ r. ⌜ r ≤ 4096 ⌝ }
 {
     let from = 2 + 9 * numbers;

@@ -1,6 +1,7 @@
 // Runs the vectors of tests/model/make.py: a vector to a line of standard input, its answer to a line of standard output, which `rt check`
 // compares with the expected lines beside it.
 mod lines;
+mod mangling;
 mod show;
 
 use libc::STDIN_FILENO;
@@ -42,6 +43,38 @@ fn run_record(kind: u8, line: &[u8], image: &[u8]) {
     }
 }
 
+// The first pins of the bytes: all 32, or the eight data pins.
+fn board_pins(bytes: [u8; 4096]) -> [u8; 32] {
+    let mut p = [0u8; 32];
+    let mut i = 0;
+    while i < 32 {
+        p[i] = bytes[i];
+        i += 1;
+    }
+    p
+}
+
+fn data_pins(bytes: [u8; 4096]) -> [u8; 8] {
+    [
+        bytes[0],
+        bytes[1],
+        bytes[2],
+        bytes[3],
+        bytes[4],
+        bytes[5],
+        bytes[6],
+        bytes[7],
+    ]
+}
+
+fn run_board(kind: u8, line: &[u8], bytes: [u8; 4096]) {
+    match kind {
+        b'd' => mangling::run_demangle(line, &data_pins(bytes)),
+        b'g' => mangling::run_mangle(false, line, board_pins(bytes)),
+        _ => mangling::run_mangle(true, line, board_pins(bytes)),
+    }
+}
+
 fn run_bytes(kind: u8, line: &[u8], bytes: [u8; 4096], n: usize) {
     if 4096 < n {
         return;
@@ -55,10 +88,12 @@ fn run_bytes(kind: u8, line: &[u8], bytes: [u8; 4096], n: usize) {
 
 // How many numbers stand between a kind and its bytes.
 fn numbers_of(kind: u8) -> usize
-    ensures { λ r. ⌜ r < 8 ⌝ }
+    ensures { λ r. ⌜ r < 16 ⌝ }
 {
     match kind {
         b'r' => 1,
+        b'g' => 9,
+        b'G' => 8,
         b'e' => 6,
         _ => 2,
     }
@@ -68,7 +103,10 @@ fn run_line(line: &[u8]) {
     let kind = le::u8_at(line, 0);
     let mut bytes = [0u8; 4096];
     let n = lines::decode(line, numbers_of(kind), &mut bytes);
-    run_bytes(kind, line, bytes, n);
+    match kind {
+        b'd' | b'g' | b'G' => run_board(kind, line, bytes),
+        _ => run_bytes(kind, line, bytes, n),
+    }
     show::end();
 }
 

@@ -44,6 +44,16 @@ pub(crate) fn words(words: &[u32; 25]) {
     }
 }
 
+pub(crate) fn two(a: u32, b: u32) {
+    first(a);
+    next(b);
+}
+
+// Between two answers of a line.
+pub(crate) fn gap() {
+    io::write_all(STDOUT_FILENO, b" ");
+}
+
 pub(crate) fn three(a: u32, b: u32, c: u32) {
     first(a);
     next(b);

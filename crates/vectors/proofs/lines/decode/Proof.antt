@@ -4,7 +4,7 @@ use Rattle.vectors.proofs.lines.decode.Statement.{statement}
 use Rattle.vectors.proofs.lines.decode.Tie as tie
 
 abbrev Inv-loop : tie.InvT-loop
-Inv-loop line numbers bytes₀ from n₀ bytes n = (n ≤ 4096) × (from ≤ 128)
+Inv-loop line numbers bytes₀ from n₀ bytes n = (n ≤ 4096) × (from ≤ 256)
 
 abbrev μ-loop : tie.MeasureT-loop
 μ-loop line numbers bytes₀ from n₀ bytes n = 4096 - n

@@ -1,0 +1,113 @@
+-- One step of each recursive definition, in the terms of the loops.
+-- Assumes nothing.
+use Prim.Native.Nat.{ℕ, zero, suc, _+_, _*_, _^_, _≤_, _<_}
+use native.Mathlib.Nat.{add-mul, mul-assoc, pow-suc, mul-le-mul-right, le-of-suc-le-suc, not-suc-le-zero}
+use native.Mathlib.Numerals.{add-one}
+use native.Mathlib.Omega.{arith}
+use mathlib.Core.Path.{_≡_, refl}
+use mathlib.Core.List.{List, [], _∷_, _++_, map, append-assoc, append-nil}
+use mathlib.Core.Bool.{Bool, true, false, _&&_, _||_}
+use lib.Bits.{bitOr}
+use lib.Dec.{ltb}
+use lib.ListN.{length, getD, take, drop, set, drop-of-length-le}
+use lib.Seq.{drop-cons, take-all, take-suc-set}
+use borrow.Author.Tests.{lt-ltb, le-ltb}
+use Rattle.le.specs.Choice.{pick}
+use Rattle.mangle.specs.BaseZero.{leastOf}
+use Rattle.mangle.specs.Bits.{taken, gather}
+use Rattle.mangle.specs.Demangle.{allBelow}
+use Rattle.mangle.specs.Mangle.{bitOf, raised}
+use Rattle.mangle.specs.PinMap.{withAddress, off, controlOff, withControl, withControls}
+use Rattle.mangle.specs.Rules.{isBit}
+
+pub least-on : (ps : List ℕ) (i m : ℕ) → i < length ps
+    → leastOf (drop i ps) m ≡ leastOf (drop (i + 1) ps) (pick (ltb (getD ps i 0) m) (getD ps i 0) m)
+unfolding leastOf
+least-on ps i m h = rw (add-one i, drop-cons ps i 0)
+
+pub least-end : (ps : List ℕ) (i m : ℕ) → length ps ≤ i → leastOf (drop i ps) m ≡ m
+unfolding leastOf
+least-end ps i m h = rw (drop-of-length-le ps h)
+
+-- the first i of l are done, the others follow
+pub map-on : (f : ℕ → ℕ) (l ps : List ℕ) (i : ℕ) → i < length l → i < length ps
+    → take (i + 1) (set l i (f (getD ps i 0))) ++ map f (drop (i + 1) ps) ≡ take i l ++ map f (drop i ps)
+map-on f l ps i h k = rw (add-one i, drop-cons ps i 0, take-suc-set l i (f (getD ps i 0))) (simp append-assoc)
+
+pub map-end : (f : ℕ → ℕ) (l ps : List ℕ) (i : ℕ) → length l ≤ i → length ps ≤ i → take i l ++ map f (drop i ps) ≡ l
+map-end f l ps i h k = rw (drop-of-length-le ps k, take-all i l h) (append-nil l)
+
+horner : (b g i : ℕ) → (b + 2 * g) * 2 ^ i ≡ b * 2 ^ i + g * 2 ^ suc i
+horner b g i = rw (add-mul, pow-suc, mul-assoc 2 g, ← mul-assoc g (2 ^ i) 2) (omega arith)
+
+-- one more bit gathered
+pub gather-on : (es : List ℕ) (x r i : ℕ) → i < length es
+    → r + taken x (getD es i 0) * 2 ^ i + gather (drop (i + 1) es) x * 2 ^ (i + 1) ≡ r + gather (drop i es) x * 2 ^ i
+unfolding gather
+gather-on es x r i h =
+    rw (add-one i, drop-cons es i 0) (let e = horner (taken x (getD es i 0)) (gather (drop (suc i) es) x) i in omega arith)
+
+pub gather-end : (es : List ℕ) (x r i : ℕ) → length es ≤ i → r + gather (drop i es) x * 2 ^ i ≡ r
+unfolding gather
+gather-end es x r i h = rw (drop-of-length-le es h) (omega arith)
+
+pub with-lt : (r b i : ℕ) → r < 2 ^ i → b < 2 → r + b * 2 ^ i < 2 ^ (i + 1)
+with-lt r b i h k = rw (add-one i, pow-suc) (let e = mul-le-mul-right (2 ^ i) (le-of-suc-le-suc k) in omega arith)
+
+-- one more address bit to its pin
+pub address-on : (ps m : List ℕ) (i : ℕ) → i < length ps
+    → withAddress (drop i ps) i m ≡ withAddress (drop (i + 1) ps) (i + 1) (set m (getD ps i 0) i)
+unfolding withAddress
+address-on ps m i h = rw (add-one i, drop-cons ps i 0)
+
+pub address-end : (ps m : List ℕ) (i : ℕ) → length ps ≤ i → withAddress (drop i ps) i m ≡ m
+unfolding withAddress
+address-end ps m i h = rw (drop-of-length-le ps h)
+
+-- inside the list the default plays no part
+pub getD-any : (l : List ℕ) (i a b : ℕ) → i < length l → getD l i a ≡ getD l i b
+getD-any [] i a b h = absurd (not-suc-le-zero h)
+getD-any (x ∷ l) zero a b h = refl
+getD-any (x ∷ l) (suc i) a b h = getD-any l i a b (le-of-suc-le-suc h)
+
+-- the pins from the i-th on
+pub below-on : (n i : ℕ) (ps : List ℕ) → i < length ps → getD ps i 0 < n → allBelow n (drop i ps) ≡ allBelow n (drop (i + 1) ps)
+unfolding allBelow
+below-on n i ps h k = rw (add-one i, drop-cons ps i 0, lt-ltb (getD ps i 0) n k)
+
+pub below-off : (n i : ℕ) (ps : List ℕ) → i < length ps → n ≤ getD ps i 0 → allBelow n (drop i ps) ≡ false
+unfolding allBelow
+below-off n i ps h k = rw (drop-cons ps i 0, le-ltb (getD ps i 0) n k)
+
+pub below-end : (n i : ℕ) (ps : List ℕ) → length ps ≤ i → allBelow n (drop i ps) ≡ true
+unfolding allBelow
+below-end n i ps h = rw (drop-of-length-le ps h)
+
+-- one more control pin
+pub off-on : (ps bs : List ℕ) (i : ℕ) → i < length ps → i < length bs
+    → controlOff (drop i ps) (drop i bs) ≡ ((isBit (getD bs i 0) && off (getD ps i 0)) || controlOff (drop (i + 1) ps) (drop (i + 1) bs))
+unfolding controlOff
+off-on ps bs i h k = rw (add-one i, drop-cons ps i 0, drop-cons bs i 0)
+
+pub off-end : (ps bs : List ℕ) (i : ℕ) → length ps ≤ i → controlOff (drop i ps) (drop i bs) ≡ false
+unfolding controlOff
+off-end ps bs i h = rw (drop-of-length-le ps h)
+
+pub control-on : (ps bs m : List ℕ) (i : ℕ) → i < length ps → i < length bs
+    → withControls (drop i ps) (drop i bs) m ≡ withControls (drop (i + 1) ps) (drop (i + 1) bs) (withControl m (getD ps i 0) (getD bs i 0))
+unfolding withControls
+control-on ps bs m i h k = rw (add-one i, drop-cons ps i 0, drop-cons bs i 0)
+
+pub control-end : (ps bs m : List ℕ) (i : ℕ) → length ps ≤ i → withControls (drop i ps) (drop i bs) m ≡ m
+unfolding withControls
+control-end ps bs m i h = rw (drop-of-length-le ps h)
+
+-- one more level
+pub raised-on : (ds : List ℕ) (ls : List Bool) (w i : ℕ) → i < length ds → i < length ls
+    → raised (drop i ds) (drop i ls) w ≡ raised (drop (i + 1) ds) (drop (i + 1) ls) (bitOr w (pick (getD ls i false) (bitOf (getD ds i 0)) 0))
+unfolding raised
+raised-on ds ls w i h k = rw (add-one i, drop-cons ds i 0, drop-cons ls i false)
+
+pub raised-end : (ds : List ℕ) (ls : List Bool) (w i : ℕ) → length ds ≤ i → raised (drop i ds) (drop i ls) w ≡ w
+unfolding raised
+raised-end ds ls w i h = rw (drop-of-length-le ds h)

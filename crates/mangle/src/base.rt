@@ -1,0 +1,85 @@
+// Base-zero: the pins of a record, counted from the least of them (info.rs `base_zero`).
+use super::bits::pick_num;
+use pins::SdrrPins;
+ghost use mathlib.Core.Path.{_≡_};
+ghost use mathlib.Core.List.{map};
+ghost use Prim.Native.Nat.{_-_};
+ghost use Rattle.mangle.specs.BaseZero.{leastOf, lowered, leastPin, baseZero};
+
+fn least_of(ps: &[u8], m: u8) -> u8
+    ensures { λ r. ⌜ r ≡ leastOf (now (ps .entry)) m ⌝ }
+{
+    let mut min_pin = m;
+    let mut i: usize = 0;
+    while i < ps.len() {
+        let p = ps[i];
+        min_pin = pick_num(p < min_pin, p, min_pin);
+        i += 1;
+    }
+    min_pin
+}
+
+// p less m, and 0 where m is the greater.
+fn less(p: u8, m: u8) -> u8
+    ensures { λ r. ⌜ r ≡ p - m ⌝ }
+{
+    if p < m { 0 } else { p - m }
+}
+
+fn lower(m: u8, p: u8) -> u8
+    ensures { λ r. ⌜ r ≡ lowered m p ⌝ }
+{
+    pick_num(p == 255, p, less(p, m))
+}
+
+fn lower_all(m: u8, ps: [u8; 16]) -> [u8; 16]
+    ensures { λ r. ⌜ r ≡ map (lowered m) ps ⌝ }
+{
+    let mut to = ps;
+    let mut i: usize = 0;
+    while i < 16 {
+        to[i] = lower(m, ps[i]);
+        i += 1;
+    }
+    to
+}
+
+// Base-zero goes by the record's own byte and not by the type.
+fn least_pin(pins: SdrrPins) -> u8
+    ensures { λ r. ⌜ r ≡ leastPin pins ⌝ }
+{
+    let a = pins.addr;
+    let m = least_of(&a, 255);
+    if pins.rom_pins != 24 {
+        return m;
+    }
+    let controls = [
+        pins.cs1,
+        pins.cs2,
+        pins.cs3,
+        pins.x1,
+        pins.x2,
+        pins.ce,
+        pins.oe,
+    ];
+    least_of(&controls, m)
+}
+
+pub fn base_zero(pins: SdrrPins) -> SdrrPins
+    ensures { λ r. ⌜ r ≡ baseZero pins ⌝ }
+{
+    let m = least_pin(pins);
+    let k = pick_num(pins.rom_pins == 24, m, 0);
+    let a = pins.addr;
+    let addr = lower_all(m, a);
+    let mut p = pins;
+    p.addr = addr;
+    p.cs1 = lower(k, pins.cs1);
+    p.cs2 = lower(k, pins.cs2);
+    p.cs3 = lower(k, pins.cs3);
+    p.x1 = lower(k, pins.x1);
+    p.x2 = lower(k, pins.x2);
+    p.ce = lower(k, pins.ce);
+    p.oe = lower(k, pins.oe);
+    p
+}

@@ -1,0 +1,82 @@
+// Bits of a word, gathered through a list of pins, by shifts and masks.
+ghost use mathlib.Core.Path.{_≡_};
+ghost use Prim.Native.Nat.{_+_, _*_, _≤_, _<_, _^_};
+ghost use lib.Bits.{bitOr};
+ghost use lib.ListN.{length};
+ghost use Rattle.le.specs.Choice.{pick};
+ghost use Rattle.mangle.specs.Bits.{taken, gather};
+ghost use Rattle.mangle.specs.Mangle.{bitOf, place, raised};
+
+pub(crate) fn pick_num(c: bool, a: u8, b: u8) -> u8
+    ensures { λ r. ⌜ r ≡ pick c a b ⌝ }
+{
+    if c { a } else { b }
+}
+
+// The bit of the word that an entry takes.
+fn bit_of(x: u32, e: u8) -> u32
+    ensures { λ r. ⌜ r ≡ taken x e ⌝ }
+{
+    if e < 32 { (x >> e) & 1 } else { 0 }
+}
+
+// A bit put above lower ones.
+fn with_bit(r: u32, b: u32, i: u8) -> u32
+    requires { ⌜ (i < 31) × (r < 2 ^ i) × (b < 2) ⌝ }
+    ensures { λ s. ⌜ s ≡ r + b * 2 ^ i ⌝ }
+{
+    r | (b << i)
+}
+
+fn gathered(entries: &[u8], x: u32) -> u32
+    requires { ⌜ length (now entries) ≤ 16 ⌝ }
+    ensures { λ r. ⌜ r ≡ gather (now (entries .entry)) x ⌝ }
+{
+    let mut r: u32 = 0;
+    let mut i: usize = 0;
+    while i < entries.len() {
+        let entry = entries[i];
+        let pin = i as u8;
+        let b = bit_of(x, entry);
+        r = with_bit(r, b, pin);
+        i += 1;
+    }
+    r
+}
+
+// The word's bits on the sixteen pins.
+pub(crate) fn place(map: [u8; 16], word: u32) -> u32
+    ensures { λ r. ⌜ r ≡ place map word ⌝ }
+{
+    gathered(&map, word)
+}
+
+// The bits of a byte at eight data pins.
+pub(crate) fn unplace(data: [u8; 8], byte: u8) -> u8
+    ensures { λ r. ⌜ r ≡ gather «data» byte ⌝ }
+{
+    gathered(&data, byte as u32) as u8
+}
+
+// The word with input bit d raised, where the level is high.
+fn raise(word: u32, high: bool, d: u8) -> u32
+    ensures { λ r. ⌜ r ≡ bitOr word (pick high (bitOf d) 0) ⌝ }
+{
+    if !high {
+        return word;
+    }
+    if d < 32 { word | (1 << d) } else { word }
+}
+
+// The word with the input bits raised that the high levels drive.
+pub(crate) fn raised(drives: [u8; 5], levels: [bool; 5], word: u32) -> u32
+    ensures { λ r. ⌜ r ≡ raised drives levels word ⌝ }
+{
+    let mut w = word;
+    let mut i: usize = 0;
+    while i < 5 {
+        w = raise(w, levels[i], drives[i]);
+        i += 1;
+    }
+    w
+}

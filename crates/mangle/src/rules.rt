@@ -1,0 +1,117 @@
+// What mangling goes by for each type of ROM (info.rs `mangle_address`).
+use super::TypeRules;
+use super::bits::pick_num;
+use types::SdrrRomType;
+ghost use mathlib.Core.Path.{_≡_};
+ghost use Rattle.mangle.specs.Rules.{rules, unsupported, rulesOf, mask, controlBits, drives, is28C16};
+
+fn rules(
+    mask: u32,
+    cs1: u8,
+    cs2: u8,
+    cs3: u8,
+    oe: u8,
+    ce: u8,
+    by1: u8,
+    by2: u8,
+    by3: u8,
+) -> TypeRules
+    ensures { λ r. ⌜ r ≡ rules mask cs1 cs2 cs3 oe ce by1 by2 by3 ⌝ }
+{
+    TypeRules {
+        supported: true,
+        mask: mask,
+        cs1: cs1,
+        cs2: cs2,
+        cs3: cs3,
+        oe: oe,
+        ce: ce,
+        by_cs1: by1,
+        by_cs2: by2,
+        by_cs3: by3,
+    }
+}
+
+fn unsupported() -> TypeRules
+    ensures { λ r. ⌜ r ≡ unsupported ⌝ }
+{
+    TypeRules {
+        supported: false,
+        mask: 0,
+        cs1: 255,
+        cs2: 255,
+        cs3: 255,
+        oe: 255,
+        ce: 255,
+        by_cs1: 255,
+        by_cs2: 255,
+        by_cs3: 255,
+    }
+}
+
+// The mask; the input bits of the pins CS1, CS2, CS3, OE, CE; the input bits that the levels CS1, CS2, CS3 raise.
+pub(crate) fn rules_of(rom_type: SdrrRomType) -> TypeRules
+    ensures { λ r. ⌜ r ≡ rulesOf «rom_type» ⌝ }
+{
+    match rom_type {
+        SdrrRomType::Rom2364 => rules(0x1FFF, 13, 255, 255, 255, 255, 13, 255, 255),
+        SdrrRomType::Rom2332 => rules(0x0FFF, 13, 12, 255, 255, 255, 13, 12, 255),
+        SdrrRomType::Rom2316 => rules(0x07FF, 13, 11, 12, 255, 255, 13, 12, 11),
+        SdrrRomType::Rom2716 => rules(0x07FF, 255, 255, 255, 13, 11, 13, 12, 255),
+        SdrrRomType::Rom28C16 => rules(0x07FF, 255, 255, 255, 13, 11, 255, 255, 255),
+        SdrrRomType::Rom2732 => rules(0x0FFF, 255, 255, 255, 13, 11, 13, 12, 255),
+        SdrrRomType::Rom2764 | SdrrRomType::Rom28C64 => {
+            rules(0x1FFF, 255, 255, 255, 16, 17, 255, 255, 255)
+        }
+        SdrrRomType::Rom23128 => rules(0x3FFF, 16, 17, 14, 255, 255, 255, 255, 255),
+        SdrrRomType::Rom27128 => rules(0x3FFF, 255, 255, 255, 16, 17, 255, 255, 255),
+        SdrrRomType::Rom23256 => rules(0x7FFF, 16, 17, 255, 255, 255, 255, 255, 255),
+        SdrrRomType::Rom27256 | SdrrRomType::Rom28C256 => {
+            rules(0x7FFF, 255, 255, 255, 16, 17, 255, 255, 255)
+        }
+        SdrrRomType::Rom23512 => rules(0xFFFF, 16, 17, 255, 255, 255, 255, 255, 255),
+        SdrrRomType::Rom27512 => rules(0xFFFF, 255, 255, 255, 16, 17, 255, 255, 255),
+        SdrrRomType::Rom231024 => rules(0x1FFFF, 17, 255, 255, 255, 255, 255, 255, 255),
+        _ => unsupported(),
+    }
+}
+
+// The largest address.
+pub(crate) fn mask(rom_type: SdrrRomType) -> u32
+    ensures { λ r. ⌜ r ≡ mask «rom_type» ⌝ }
+{
+    let r = rules_of(rom_type);
+    r.mask
+}
+
+pub(crate) fn is_28c16(rom_type: SdrrRomType) -> bool
+    ensures { λ r. ⌜ r ≡ is28C16 «rom_type» ⌝ }
+{
+    match rom_type {
+        SdrrRomType::Rom28C16 => true,
+        _ => false,
+    }
+}
+
+// The input bits of the control pins, in the order in which they are written: CS1, CS2, CS3, OE, CE; 255: none.
+pub(crate) fn control_bits(rom_type: SdrrRomType) -> [u8; 5]
+    ensures { λ r. ⌜ r ≡ controlBits «rom_type» ⌝ }
+{
+    let r = rules_of(rom_type);
+    [r.cs1, r.cs2, r.cs3, r.oe, r.ce]
+}
+
+// The input bits that the levels CS1, CS2, CS3, X1, X2 raise; 255: none.
+pub(crate) fn drives(rom_type: SdrrRomType, rom_count: u32) -> [u8; 5]
+    ensures { λ r. ⌜ r ≡ drives «rom_type» «rom_count» ⌝ }
+{
+    let r = rules_of(rom_type);
+    let several = 2 <= rom_count;
+    [
+        r.by_cs1,
+        r.by_cs2,
+        r.by_cs3,
+        pick_num(several, 14, 255),
+        pick_num(several, 15, 255),
+    ]
+}

@@ -1,5 +1,11 @@
 // Extra info (info.rs `SdrrExtraInfo`, parsing.rs `read_extra_info`).
+use header::FirmwareVersion;
 use types::SdrrMcuPort;
+ghost use mathlib.Core.Path.{_≡_};
+ghost use Rattle.prog.specs.Prog.{run};
+ghost use Rattle.extra_info.specs.ExtraInfo.{pioDefaultOf, fieldsOf, refused, extraInfoOf, extraInfoP};
+
+const EXTRA_INFO_SIZE: usize = 256;
 
 // The PIO default flag, which firmware below 0.6.0 does not give.
 pub enum FirePioDefault {
@@ -20,4 +26,70 @@ pub struct SdrrExtraInfo {
 pub struct ExtraInfoItem {
     pub number: u8,
     pub extra_info: SdrrExtraInfo,
+}
+
+fn refuse(number: u8) -> ExtraInfoItem
+    ensures { λ r. ⌜ r ≡ refused number ⌝ }
+{
+    ExtraInfoItem {
+        number,
+        extra_info: SdrrExtraInfo {
+            rtt_ptr: 0,
+            usb_dfu: false,
+            usb_port: SdrrMcuPort::None,
+            vbus_pin: 0,
+            fire_pio_default: FirePioDefault::NotGiven,
+            runtime_info_ptr: 4294967295,
+        },
+    }
+}
+
+fn fire_pio_default(data: &[u8], version: FirmwareVersion) -> FirePioDefault
+    ensures { λ r. ⌜ r ≡ pioDefaultOf version (now («data» .entry)) ⌝ }
+{
+    if !header::from_0_6_0(version) {
+        return FirePioDefault::NotGiven;
+    }
+    FirePioDefault::Given(le::flag_at(data, 7))
+}
+
+// The record's fields. A USB port that is none of the known ones becomes None.
+fn read_fields(data: &[u8], version: FirmwareVersion) -> SdrrExtraInfo
+    ensures { λ r. ⌜ r ≡ fieldsOf version (now («data» .entry)) ⌝ }
+{
+    SdrrExtraInfo {
+        rtt_ptr: le::u32_at(data, 0),
+        usb_dfu: le::flag_at(data, 4),
+        usb_port: types::port_of(le::u8_at(data, 5)),
+        vbus_pin: le::u8_at(data, 6),
+        fire_pio_default: fire_pio_default(data, version),
+        runtime_info_ptr: le::u32_at(data, 8),
+    }
+}
+
+// The record at the front of data.
+pub fn parse_extra_info(data: &[u8], version: FirmwareVersion) -> ExtraInfoItem
+    ensures { λ r. ⌜ r ≡ extraInfoOf version (now («data» .entry)) ⌝ }
+{
+    if data.len() < EXTRA_INFO_SIZE {
+        return refuse(2);
+    }
+    ExtraInfoItem {
+        number: 0,
+        extra_info: read_fields(data, version),
+    }
+}
+
+// The record at a pointer, given to `parse_extra_info` as the image from there onward.
+pub fn read_extra_info(image: &[u8], base: u32, ptr: u32, version: FirmwareVersion) -> ExtraInfoItem
+    ensures { λ r. ⌜ r ≡ run (extraInfoP base ptr version) (now (image .entry)) ⌝ }
+{
+    if ptr < base {
+        return refuse(3);
+    }
+    if !text::can_read(image, base, ptr as u64, EXTRA_INFO_SIZE) {
+        return refuse(2);
+    }
+    let at = (ptr - base) as usize;
+    parse_extra_info(&image[at..], version)
 }

@@ -1,11 +1,99 @@
--- A failed read of the header is number 2.
+-- The version order by its first difference. The header: a failed read is number 2; its refusals in order; only its first 64 bytes count.
 -- Assumes nothing.
-use Prim.Native.Nat.{ℕ}
-use mathlib.Core.Path.{_≡_, refl}
+use Prim.Native.Nat.{ℕ, _+_, _-_, _≤_, _<_}
+use native.Mathlib.Omega.{arith}
+use native.Mathlib.Nat.{add-sub-cancel-left}
+use mathlib.Core.Path.{_≡_, refl, ap, _∙_}
+use mathlib.Core.Bool.{true, false, or-false}
+use mathlib.Core.List.{List}
+use lib.Dec.{ltb}
+use lib.ListN.{length, take, drop}
+use borrow.Author.Tests.{lt-ltb, le-ltb, eq-eqb, ne-eqb}
+use Rattle.le.specs.Le.{u16At, u32At, startsWith}
+use Rattle.prog.specs.Prog.{canRead, run}
 use Rattle.prog.specs.Honest.{Honest, honesty}
+use Rattle.prog.specs.Record.{front-byte, front-short, front-starts, record-ended, record-onward}
 use Rattle.header.specs.declared.HeaderAnswer.{HeaderAnswer}
-use Rattle.header.specs.Header.{headerP}
+use Rattle.header.specs.declared.FirmwareVersion.{FirmwareVersion}
+use Rattle.header.specs.Version.{before, below04, from070}
+use Rattle.header.specs.Header.{magic, versionOf, fieldsOf, extraPointer, wholeOf, refused, headerOf, headerP}
 
 pub header-honest : (flashBase infoOffset : ℕ) → Honest (λ (a : HeaderAnswer). a .number ≡ 2) (headerP flashBase infoOffset)
 unfolding headerP
 header-honest flashBase infoOffset = search honesty
+
+module _ (v w : FirmwareVersion) where
+  pub before-major : (v .major ≡ w .major → ⊥) → before v w ≡ ltb (v .major) (w .major)
+  unfolding before
+  before-major h = rw (ne-eqb (v .major) (w .major) h) (or-false (ltb (v .major) (w .major)))
+
+  module _ (a : v .major ≡ w .major) where
+    pub before-minor : (v .minor ≡ w .minor → ⊥) → before v w ≡ ltb (v .minor) (w .minor)
+    unfolding before
+    before-minor h =
+        rw (le-ltb (v .major) (w .major) (omega arith), eq-eqb (v .major) (w .major) a, ne-eqb (v .minor) (w .minor) h) (or-false (ltb (v .minor) (w .minor)))
+
+    module _ (b : v .minor ≡ w .minor) where
+      pub before-patch : (v .patch ≡ w .patch → ⊥) → before v w ≡ ltb (v .patch) (w .patch)
+      unfolding before
+      before-patch h =
+          rw (le-ltb (v .major) (w .major) (omega arith), eq-eqb (v .major) (w .major) a, le-ltb (v .minor) (w .minor) (omega arith), eq-eqb (v .minor) (w .minor) b, ne-eqb (v .patch) (w .patch) h)
+          (or-false (ltb (v .patch) (w .patch)))
+
+      pub before-build : v .patch ≡ w .patch → before v w ≡ ltb (v .build) (w .build)
+      unfolding before
+      before-build d =
+          rw (le-ltb (v .major) (w .major) (omega arith), eq-eqb (v .major) (w .major) a, le-ltb (v .minor) (w .minor) (omega arith), eq-eqb (v .minor) (w .minor) b, le-ltb (v .patch) (w .patch) (omega arith), eq-eqb (v .patch) (w .patch) d)
+
+-- ---- the header
+
+pub header-front : (s : List ℕ) → headerOf (take 64 s) ≡ headerOf s
+unfolding headerOf wholeOf fieldsOf
+header-front s = simp (front-short 64, front-starts 64 s magic (omega arith), front-byte 64)
+
+module _ (s : List ℕ) where
+  pub extra-none : below04 (versionOf s) ≡ true → extraPointer s ≡ 4294967295
+  extra-none e = rw e
+
+  pub extra-kept : below04 (versionOf s) ≡ false → extraPointer s ≡ u32At s 56
+  extra-kept e = rw e
+
+  pub header-short : length s < 64 → headerOf s ≡ refused 2
+  unfolding headerOf
+  header-short h = rw (lt-ltb (length s) 64 h)
+
+  module _ (whole : 64 ≤ length s) where
+    pub header-no-magic : startsWith s magic ≡ false → headerOf s ≡ refused 10
+    unfolding headerOf
+    header-no-magic m = rw (le-ltb (length s) 64 whole, m)
+
+    module _ (m : startsWith s magic ≡ true) where
+      pub header-line : 5 < u16At s 28 → headerOf s ≡ refused 11
+      unfolding headerOf
+      header-line h = rw (le-ltb (length s) 64 whole, m, lt-ltb 5 (u16At s 28) h)
+
+      module _ (line : u16At s 28 ≤ 5) where
+        pub header-storage : 7 < u16At s 30 → headerOf s ≡ refused 12
+        unfolding headerOf
+        header-storage h = rw (le-ltb (length s) 64 whole, m, le-ltb 5 (u16At s 28) line, lt-ltb 7 (u16At s 30) h)
+
+        module _ (storage : u16At s 30 ≤ 7) where
+          pub header-version : from070 (versionOf s) ≡ true → headerOf s ≡ refused 13
+          unfolding headerOf
+          header-version v = rw (le-ltb (length s) 64 whole, m, le-ltb 5 (u16At s 28) line, le-ltb 7 (u16At s 30) storage, v)
+
+          pub header-accepted : from070 (versionOf s) ≡ false → headerOf s ≡ record { number = 0; header = wholeOf s }
+          unfolding headerOf
+          header-accepted v = rw (le-ltb (length s) 64 whole, m, le-ltb 5 (u16At s 28) line, le-ltb 7 (u16At s 30) storage, v)
+
+module _ (x : List ℕ) (flashBase infoOffset : ℕ) where
+  pub header-ended : canRead x flashBase (flashBase + infoOffset) 64 ≡ false → run (headerP flashBase infoOffset) x ≡ refused 2
+  unfolding headerP
+  header-ended e = record-ended x flashBase (flashBase + infoOffset) 64 (refused 2) headerOf e
+
+  pub header-onward : canRead x flashBase (flashBase + infoOffset) 64 ≡ true
+      → run (headerP flashBase infoOffset) x ≡ headerOf (take (length x - infoOffset) (drop infoOffset x))
+  unfolding headerP
+  header-onward e =
+      record-onward x flashBase (flashBase + infoOffset) 64 (refused 2) headerOf e header-front
+      ∙ ap (λ (o : ℕ). headerOf (take (length x - o) (drop o x))) (add-sub-cancel-left flashBase infoOffset)

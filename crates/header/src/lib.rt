@@ -1,6 +1,15 @@
 // The info header (parsing.rs `SdrrInfoHeader`, `parse_and_validate_header`).
 use types::McuLine;
 use types::McuStorage;
+ghost use mathlib.Core.Path.{_≡_};
+ghost use Prim.Native.Nat.{_+_, _≤_};
+ghost use lib.ListN.{length};
+ghost use Rattle.types.specs.Types.{lineOf, storageOf};
+ghost use Rattle.prog.specs.Prog.{run};
+ghost use Rattle.header.specs.Version.{version, before, below04, from050, from051, from060, from070};
+ghost use Rattle.header.specs.Header.{versionOf, fourAt, eightAt, fieldsOf, extraPointer, wholeOf, noHeader, refused, headerOf, headerP, baseAfter, hasFilenames};
+
+const HEADER_SIZE: usize = 64;
 
 pub struct FirmwareVersion {
     pub major: u16,
@@ -42,4 +51,259 @@ pub struct SdrrInfoHeader {
 pub struct HeaderAnswer {
     pub number: u8,
     pub header: SdrrInfoHeader,
+}
+
+// Whether v comes before w: by major, then minor, then patch, then build.
+pub fn is_before(v: FirmwareVersion, w: FirmwareVersion) -> bool
+    ensures { λ r. ⌜ r ≡ before v w ⌝ }
+{
+    if v.major != w.major {
+        return v.major < w.major;
+    }
+    if v.minor != w.minor {
+        return v.minor < w.minor;
+    }
+    if v.patch != w.patch {
+        return v.patch < w.patch;
+    }
+    v.build < w.build
+}
+
+// A release: build 0.
+fn release(major: u16, minor: u16, patch: u16) -> FirmwareVersion
+    ensures { λ r. ⌜ r ≡ version major minor patch 0 ⌝ }
+{
+    FirmwareVersion {
+        major,
+        minor,
+        patch,
+        build: 0,
+    }
+}
+
+// Below 0.4 there is no extra pointer.
+pub fn below_0_4(v: FirmwareVersion) -> bool
+    ensures { λ r. ⌜ r ≡ below04 v ⌝ }
+{
+    is_before(v, release(0, 4, 0))
+}
+
+// Metadata is looked for from 0.5.0.
+pub fn from_0_5_0(v: FirmwareVersion) -> bool
+    ensures { λ r. ⌜ r ≡ from050 v ⌝ }
+{
+    !is_before(v, release(0, 5, 0))
+}
+
+// ROM infos have filenames from 0.5.1.
+pub fn from_0_5_1(v: FirmwareVersion) -> bool
+    ensures { λ r. ⌜ r ≡ from051 v ⌝ }
+{
+    !is_before(v, release(0, 5, 1))
+}
+
+// The PIO default flag is given from 0.6.0.
+pub fn from_0_6_0(v: FirmwareVersion) -> bool
+    ensures { λ r. ⌜ r ≡ from060 v ⌝ }
+{
+    !is_before(v, release(0, 6, 0))
+}
+
+// Firmware from 0.7.0 is refused.
+pub fn from_0_7_0(v: FirmwareVersion) -> bool
+    ensures { λ r. ⌜ r ≡ from070 v ⌝ }
+{
+    !is_before(v, release(0, 7, 0))
+}
+
+// ROM infos have filenames from 0.5.1, or where boot logging is on.
+pub fn filenames_enabled(fields: SdrrInfoFields) -> bool
+    ensures { λ r. ⌜ r ≡ hasFilenames fields ⌝ }
+{
+    le::either(from_0_5_1(fields.version), fields.boot_logging_enabled)
+}
+
+fn mcu_line(number: u16) -> McuLine
+    ensures { λ r. ⌜ r ≡ lineOf number ⌝ }
+{
+    match number {
+        1 => McuLine::F405,
+        2 => McuLine::F411,
+        3 => McuLine::F446,
+        4 => McuLine::F401BC,
+        5 => McuLine::Rp2350,
+        _ => McuLine::F401DE,
+    }
+}
+
+fn mcu_storage(number: u16) -> McuStorage
+    ensures { λ r. ⌜ r ≡ storageOf number ⌝ }
+{
+    match number {
+        1 => McuStorage::StorageB,
+        2 => McuStorage::StorageC,
+        3 => McuStorage::StorageD,
+        4 => McuStorage::StorageE,
+        5 => McuStorage::StorageF,
+        6 => McuStorage::StorageG,
+        7 => McuStorage::Storage2MB,
+        _ => McuStorage::Storage8,
+    }
+}
+
+fn read_version(s: &[u8]) -> FirmwareVersion
+    ensures { λ r. ⌜ r ≡ versionOf (now (s .entry)) ⌝ }
+{
+    FirmwareVersion {
+        major: le::u16_at(s, 4),
+        minor: le::u16_at(s, 6),
+        patch: le::u16_at(s, 8),
+        build: le::u16_at(s, 10),
+    }
+}
+
+fn read_commit(s: &[u8]) -> [u8; 8]
+    requires { ⌜ 64 ≤ length (now s) ⌝ }
+    ensures { λ r. ⌜ r ≡ eightAt (now (s .entry)) 16 ⌝ }
+{
+    [s[16], s[17], s[18], s[19], s[20], s[21], s[22], s[23]]
+}
+
+fn read_boot_config(s: &[u8]) -> [u8; 4]
+    requires { ⌜ 64 ≤ length (now s) ⌝ }
+    ensures { λ r. ⌜ r ≡ fourAt (now (s .entry)) 52 ⌝ }
+{
+    [s[52], s[53], s[54], s[55]]
+}
+
+fn read_fields(s: &[u8]) -> SdrrInfoFields
+    requires { ⌜ 64 ≤ length (now s) ⌝ }
+    ensures { λ r. ⌜ r ≡ fieldsOf (now (s .entry)) ⌝ }
+{
+    SdrrInfoFields {
+        version: read_version(s),
+        commit: read_commit(s),
+        stm_line: mcu_line(le::u16_at(s, 28)),
+        stm_storage: mcu_storage(le::u16_at(s, 30)),
+        freq: le::u16_at(s, 32),
+        overclock: s[34] != 0,
+        swd_enabled: s[35] != 0,
+        preload_image_to_ram: s[36] != 0,
+        bootloader_capable: s[37] != 0,
+        status_led_enabled: s[38] != 0,
+        boot_logging_enabled: s[39] != 0,
+        mco_enabled: s[40] != 0,
+        count_rom_access: s[42] != 0,
+        boot_config: read_boot_config(s),
+    }
+}
+
+// The extra pointer, which firmware below 0.4 does not have.
+fn read_extra_ptr(s: &[u8]) -> u32
+    ensures { λ r. ⌜ r ≡ extraPointer (now (s .entry)) ⌝ }
+{
+    if below_0_4(read_version(s)) {
+        return 4294967295;
+    }
+    le::u32_at(s, 56)
+}
+
+fn read_whole(s: &[u8]) -> SdrrInfoHeader
+    requires { ⌜ 64 ≤ length (now s) ⌝ }
+    ensures { λ r. ⌜ r ≡ wholeOf (now (s .entry)) ⌝ }
+{
+    SdrrInfoHeader {
+        fields: read_fields(s),
+        build_date_ptr: le::u32_at(s, 12),
+        hw_rev_ptr: le::u32_at(s, 24),
+        rom_set_count: le::u8_at(s, 41),
+        rom_sets_ptr: le::u32_at(s, 44),
+        pins_ptr: le::u32_at(s, 48),
+        extra_ptr: read_extra_ptr(s),
+    }
+}
+
+fn no_fields() -> SdrrInfoFields
+    ensures { λ r. ⌜ r ≡ noHeader .fields ⌝ }
+{
+    SdrrInfoFields {
+        version: release(0, 0, 0),
+        commit: [0; 8],
+        stm_line: McuLine::F401DE,
+        stm_storage: McuStorage::Storage8,
+        freq: 0,
+        overclock: false,
+        swd_enabled: false,
+        preload_image_to_ram: false,
+        bootloader_capable: false,
+        status_led_enabled: false,
+        boot_logging_enabled: false,
+        mco_enabled: false,
+        count_rom_access: false,
+        boot_config: [0; 4],
+    }
+}
+
+fn refuse(number: u8) -> HeaderAnswer
+    ensures { λ r. ⌜ r ≡ refused number ⌝ }
+{
+    let header = SdrrInfoHeader {
+        fields: no_fields(),
+        build_date_ptr: 0,
+        hw_rev_ptr: 0,
+        rom_set_count: 0,
+        rom_sets_ptr: 0,
+        pins_ptr: 0,
+        extra_ptr: 0,
+    };
+    HeaderAnswer { number, header }
+}
+
+// The header at the front of data.
+pub fn parse_and_validate_header(data: &[u8]) -> HeaderAnswer
+    ensures { λ r. ⌜ r ≡ headerOf (now («data» .entry)) ⌝ }
+{
+    if data.len() < HEADER_SIZE {
+        return refuse(2);
+    }
+    if !le::starts_with(data, b"SDRR") {
+        return refuse(10);
+    }
+    if 5 < le::u16_at(data, 28) {
+        return refuse(11);
+    }
+    if 7 < le::u16_at(data, 30) {
+        return refuse(12);
+    }
+    if from_0_7_0(read_version(data)) {
+        return refuse(13);
+    }
+    let header = read_whole(data);
+    HeaderAnswer { number: 0, header }
+}
+
+// The header at flash base plus info offset, given to `parse_and_validate_header` as the image from there onward.
+pub fn retrieve_header(image: &[u8], flash_base: u32, info_offset: u32) -> HeaderAnswer
+    ensures { λ r. ⌜ r ≡ run (headerP «flash_base» «info_offset») (now (image .entry)) ⌝ }
+{
+    let address = flash_base as u64 + info_offset as u64;
+    if !text::can_read(image, flash_base, address, HEADER_SIZE) {
+        return refuse(2);
+    }
+    let at = info_offset as usize;
+    parse_and_validate_header(&image[at..])
+}
+
+// The base in force after the header: the CS0 base for Rp2350.
+pub fn base_after(flash_base: u32, cs0_base: u32, line: McuLine) -> u32
+    ensures { λ r. ⌜ r ≡ baseAfter «flash_base» «cs0_base» line ⌝ }
+{
+    match line {
+        McuLine::F401DE => flash_base,
+        McuLine::F405 => flash_base,
+        McuLine::F411 => flash_base,
+        McuLine::F446 => flash_base,
+        McuLine::F401BC => flash_base,
+        McuLine::Rp2350 => cs0_base,
+    }
 }

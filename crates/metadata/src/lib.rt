@@ -1,4 +1,9 @@
 // Metadata (parsing.rs `read_one_rom_metadata_header_info`, judged in lib.rs `parse_flash`).
+ghost use mathlib.Core.Path.{_≡_};
+ghost use Rattle.prog.specs.Prog.{run};
+ghost use Rattle.metadata.specs.Metadata.{refused, metadataOf, metadataP};
+
+const METADATA_SIZE: usize = 256;
 
 // 0 with the set count and the sets pointer, or the number of its refusal with zeros.
 pub struct MetadataAnswer {
@@ -11,4 +16,53 @@ pub struct MetadataAnswer {
 pub enum MetadataItem {
     NotLookedFor,
     Looked(u8),
+}
+
+fn refuse(number: u8) -> MetadataAnswer
+    ensures { λ r. ⌜ r ≡ refused number ⌝ }
+{
+    MetadataAnswer {
+        number,
+        rom_set_count: 0,
+        rom_sets_ptr: 0,
+    }
+}
+
+// The record at the front of data. A count of 0 is accepted at any pointer.
+pub fn parse_metadata(data: &[u8]) -> MetadataAnswer
+    ensures { λ r. ⌜ r ≡ metadataOf (now («data» .entry)) ⌝ }
+{
+    if data.len() < METADATA_SIZE {
+        return refuse(2);
+    }
+    if !le::starts_with(data, b"ONEROM_METADATA\0") {
+        return refuse(30);
+    }
+    if le::u32_at(data, 16) != 1 {
+        return refuse(31);
+    }
+    let rom_set_count = le::u8_at(data, 20);
+    let rom_sets_ptr = le::u32_at(data, 24);
+    if le::both(0 < rom_set_count, rom_sets_ptr == 0) {
+        return refuse(32);
+    }
+    MetadataAnswer {
+        number: 0,
+        rom_set_count,
+        rom_sets_ptr,
+    }
+}
+
+// The record at a pointer, given to `parse_metadata` as the image from there onward.
+pub fn read_one_rom_metadata_header_info(image: &[u8], base: u32, ptr: u32) -> MetadataAnswer
+    ensures { λ r. ⌜ r ≡ run (metadataP base ptr) (now (image .entry)) ⌝ }
+{
+    if ptr < base {
+        return refuse(3);
+    }
+    if !text::can_read(image, base, ptr as u64, METADATA_SIZE) {
+        return refuse(2);
+    }
+    let at = (ptr - base) as usize;
+    parse_metadata(&image[at..])
 }

@@ -1,5 +1,16 @@
 // The pins record (info.rs `SdrrPins`, parsing.rs `read_pins`).
 use types::SdrrMcuPort;
+ghost use mathlib.Core.Path.{_≡_};
+ghost use mathlib.Core.List.{_++_};
+ghost use Prim.Native.Nat.{_+_, _≤_};
+ghost use lib.Dec.{eqb};
+ghost use lib.ListN.{length};
+ghost use Rattle.le.specs.Choice.{pick};
+ghost use Rattle.le.specs.Le.{u8At};
+ghost use Rattle.prog.specs.Prog.{run};
+ghost use Rattle.pins.specs.Pins.{eightAt, sixteenAt, eightZeros, fieldsOf, noPins, refused, unknownPort, pinsOf, pinsP};
+
+const PINS_SIZE: usize = 88;
 
 // All pin fields are numbers of physical pins, 255 where there is none; an array's index is the address or data line.
 pub struct SdrrPins {
@@ -42,4 +53,203 @@ pub struct SdrrPins {
 pub struct PinsItem {
     pub number: u8,
     pub pins: SdrrPins,
+}
+
+fn no_pins() -> SdrrPins
+    ensures { λ r. ⌜ r ≡ noPins ⌝ }
+{
+    SdrrPins {
+        data_port: SdrrMcuPort::None,
+        addr_port: SdrrMcuPort::None,
+        cs_port: SdrrMcuPort::None,
+        sel_port: SdrrMcuPort::None,
+        status_port: SdrrMcuPort::None,
+        rom_pins: 0,
+        data: [0; 8],
+        addr: [0; 16],
+        cs1: 0,
+        cs2: 0,
+        cs3: 0,
+        reserved2a: 0,
+        reserved2b: 0,
+        reserved2c: 0,
+        x1: 0,
+        x2: 0,
+        ce: 0,
+        oe: 0,
+        x_jumper_pull: 0,
+        swclk_sel: 0,
+        swdio_sel: 0,
+        sel0: 0,
+        sel1: 0,
+        sel2: 0,
+        sel3: 0,
+        sel4: 0,
+        sel5: 0,
+        sel6: 0,
+        sel_jumper_pull: 0,
+        status: 0,
+        extended: 0,
+        data2: [0; 8],
+        addr2: [0; 16],
+    }
+}
+
+fn refuse(number: u8) -> PinsItem
+    ensures { λ r. ⌜ r ≡ refused number ⌝ }
+{
+    let pins = no_pins();
+    PinsItem { number, pins }
+}
+
+fn eight(s: &[u8], at: usize) -> [u8; 8]
+    requires { ⌜ at + 8 ≤ length (now s) ⌝ }
+    ensures { λ r. ⌜ r ≡ eightAt (now (s .entry)) at ⌝ }
+{
+    [
+        s[at],
+        s[at + 1],
+        s[at + 2],
+        s[at + 3],
+        s[at + 4],
+        s[at + 5],
+        s[at + 6],
+        s[at + 7],
+    ]
+}
+
+fn sixteen(s: &[u8], at: usize) -> [u8; 16]
+    requires { ⌜ at + 16 ≤ length (now s) ⌝ }
+    ensures { λ r. ⌜ r ≡ sixteenAt (now (s .entry)) at ⌝ }
+{
+    [
+        s[at],
+        s[at + 1],
+        s[at + 2],
+        s[at + 3],
+        s[at + 4],
+        s[at + 5],
+        s[at + 6],
+        s[at + 7],
+        s[at + 8],
+        s[at + 9],
+        s[at + 10],
+        s[at + 11],
+        s[at + 12],
+        s[at + 13],
+        s[at + 14],
+        s[at + 15],
+    ]
+}
+
+// Extended is exactly 1: any other byte gives no second pins.
+fn is_extended(s: &[u8]) -> bool
+    ensures { λ r. ⌜ r ≡ eqb (u8At (now (s .entry)) 63) 1 ⌝ }
+{
+    le::u8_at(s, 63) == 1
+}
+
+// The second data pins; zeros where the record is not extended.
+fn second_data(s: &[u8]) -> [u8; 8]
+    requires { ⌜ 88 ≤ length (now s) ⌝ }
+    ensures { λ r. ⌜ r ≡ pick (eqb (u8At (now (s .entry)) 63) 1) (eightAt (now (s .entry)) 64) eightZeros ⌝ }
+{
+    if is_extended(s) {
+        return eight(s, 64);
+    }
+    [0; 8]
+}
+
+// The second address pins; zeros where the record is not extended.
+fn second_addr(s: &[u8]) -> [u8; 16]
+    requires { ⌜ 88 ≤ length (now s) ⌝ }
+    ensures { λ r. ⌜ r ≡ pick (eqb (u8At (now (s .entry)) 63) 1) (sixteenAt (now (s .entry)) 72) (eightZeros ++ eightZeros) ⌝ }
+{
+    if is_extended(s) {
+        return sixteen(s, 72);
+    }
+    [0; 16]
+}
+
+// Whether one of the five ports is none of the known ones.
+fn unknown_port(s: &[u8]) -> bool
+    requires { ⌜ 88 ≤ length (now s) ⌝ }
+    ensures { λ r. ⌜ r ≡ unknownPort (now (s .entry)) ⌝ }
+{
+    le::either(
+        5 < s[0],
+        le::either(
+            5 < s[1],
+            le::either(5 < s[2], le::either(5 < s[3], 5 < s[4])),
+        ),
+    )
+}
+
+fn read_fields(s: &[u8]) -> SdrrPins
+    requires { ⌜ 88 ≤ length (now s) ⌝ }
+    ensures { λ r. ⌜ r ≡ fieldsOf (now (s .entry)) ⌝ }
+{
+    SdrrPins {
+        data_port: types::port_of(s[0]),
+        addr_port: types::port_of(s[1]),
+        cs_port: types::port_of(s[2]),
+        sel_port: types::port_of(s[3]),
+        status_port: types::port_of(s[4]),
+        rom_pins: s[5],
+        data: eight(s, 8),
+        addr: sixteen(s, 16),
+        cs1: s[36],
+        cs2: s[37],
+        cs3: s[38],
+        reserved2a: s[39],
+        reserved2b: s[40],
+        reserved2c: s[41],
+        x1: s[42],
+        x2: s[43],
+        ce: s[44],
+        oe: s[45],
+        x_jumper_pull: s[46],
+        swclk_sel: s[50],
+        swdio_sel: s[51],
+        sel0: s[52],
+        sel1: s[53],
+        sel2: s[54],
+        sel3: s[55],
+        sel4: s[56],
+        sel5: s[57],
+        sel6: s[58],
+        sel_jumper_pull: s[59],
+        status: s[60],
+        extended: s[63],
+        data2: second_data(s),
+        addr2: second_addr(s),
+    }
+}
+
+// The record at the front of data.
+pub fn parse_pins(data: &[u8]) -> PinsItem
+    ensures { λ r. ⌜ r ≡ pinsOf (now («data» .entry)) ⌝ }
+{
+    if data.len() < PINS_SIZE {
+        return refuse(2);
+    }
+    if unknown_port(data) {
+        return refuse(50);
+    }
+    let pins = read_fields(data);
+    PinsItem { number: 0, pins }
+}
+
+// The record at a pointer, given to `parse_pins` as the image from there onward.
+pub fn read_pins(image: &[u8], base: u32, ptr: u32) -> PinsItem
+    ensures { λ r. ⌜ r ≡ run (pinsP base ptr) (now (image .entry)) ⌝ }
+{
+    if ptr < base {
+        return refuse(3);
+    }
+    if !text::can_read(image, base, ptr as u64, PINS_SIZE) {
+        return refuse(2);
+    }
+    let at = (ptr - base) as usize;
+    parse_pins(&image[at..])
 }

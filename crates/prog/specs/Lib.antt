@@ -8,3 +8,4 @@ pub mod Parts
 pub mod Honest
 pub mod Counts
 pub mod Cases
+pub mod Record

@@ -1,14 +1,15 @@
 -- Number and case are each other's inverse; of a number that is none, the first case.
 -- Assumes nothing.
-use Prim.Native.Nat.{ℕ, zero, suc, _≤_, _<_}
+use Prim.Native.Nat.{ℕ, zero, suc, _<_}
 use native.Mathlib.Omega.{arith}
 use mathlib.Core.Path.{_≡_, refl}
-use lib.ListN.{List·getD-eq-default}
+use mathlib.Core.List.{List, _∷_}
+use lib.ListN.{length, getD, drop, List·getD-eq-default}
 use Rattle.types.specs.declared.McuLine.{McuLine}
 use Rattle.types.specs.declared.McuStorage.{McuStorage}
 use Rattle.types.specs.declared.SdrrMcuPort.{SdrrMcuPort}
 use Rattle.types.specs.declared.SdrrRomType.{SdrrRomType}
-use Rattle.types.specs.Types.{lineNumber, lineOf, storageNumber, storageOf, portNumber, ports, portOf, romTypeNumber, romTypes, romTypeOf}
+use Rattle.types.specs.Types.{lineNumber, lines, lineOf, storageNumber, storages, storageOf, portNumber, ports, portOf, romTypeNumber, romTypes, romTypeOf}
 
 pub line-again : (v : McuLine) → lineOf (lineNumber v) ≡ v
 unfolding lineOf lineNumber
@@ -76,17 +77,27 @@ rom-type-again SdrrRomType.Rom23QL384 = refl
 rom-type-again SdrrRomType.Rom23C1001 = refl
 rom-type-again SdrrRomType.Rom27C200 = refl
 
--- a number that is no other port's is None's
+-- ---- of a number that is none, the first case
+
+first-case : {A : Type 0} (a : A) (l : List A) (n : ℕ) → (0 < n → length l < n) → getD (a ∷ l) n a ≡ a
+first-case a l zero h = refl
+first-case a l (suc n) h = List·getD-eq-default l a (let i = h (omega arith) in omega arith)
+
+pub line-unknown : (n : ℕ) → (0 < n → 5 < n) → lineOf n ≡ McuLine.F401DE
+unfolding lineOf
+line-unknown n h = first-case McuLine.F401DE (drop 1 lines) n h
+
+pub storage-unknown : (n : ℕ) → (0 < n → 7 < n) → storageOf n ≡ McuStorage.Storage8
+unfolding storageOf
+storage-unknown n h = first-case McuStorage.Storage8 (drop 1 storages) n h
+
 pub port-unknown : (n : ℕ) → (0 < n → 5 < n) → portOf n ≡ SdrrMcuPort.None
 unfolding portOf
-port-unknown zero h = refl
-port-unknown (suc n) h = List·getD-eq-default ports SdrrMcuPort.None (h (omega arith))
+port-unknown n h = first-case SdrrMcuPort.None (drop 1 ports) n h
 
--- a number that is no other type's is the first's
 pub rom-type-unknown : (n : ℕ) → (0 < n → 33 < n) → romTypeOf n ≡ SdrrRomType.Rom2316
 unfolding romTypeOf
-rom-type-unknown zero h = refl
-rom-type-unknown (suc n) h = List·getD-eq-default romTypes SdrrRomType.Rom2316 (h (omega arith))
+rom-type-unknown n h = first-case SdrrRomType.Rom2316 (drop 1 romTypes) n h
 
 -- a number that is none of 1 to k, as a match leaves it
 abbrev pub NoneOf : ℕ → ℕ → Type 0

@@ -25,6 +25,22 @@ fn run_runtime(record: &[u8], ram_base: u32) {
     }
 }
 
+fn run_version(line: &[u8]) -> header::FirmwareVersion {
+    header::FirmwareVersion {
+        major: lines::half(line, 2),
+        minor: lines::half(line, 3),
+        patch: lines::half(line, 4),
+        build: lines::half(line, 5),
+    }
+}
+
+fn run_extra_info(line: &[u8], image: &[u8]) {
+    let base = lines::number(line, 0);
+    let pointer = lines::number(line, 1);
+    let version = run_version(line);
+    show::extra_info(extra_info::read_extra_info(image, base, pointer, version));
+}
+
 // A string by the exported call.
 fn run_string(image: &[u8], base: u32, pointer: u32) {
     let mut part = [0u32; 2];
@@ -39,6 +55,9 @@ fn run_record(kind: u8, line: &[u8], image: &[u8]) {
     match kind {
         b's' => show::text(text::read_string_at_ptr(image, base, at)),
         b'S' => run_string(image, base, at),
+        b'h' => show::header(header::retrieve_header(image, base, at)),
+        b'm' => show::metadata(metadata::read_one_rom_metadata_header_info(image, base, at)),
+        b'p' => show::pins(pins::read_pins(image, base, at)),
         _ => show::first(255),
     }
 }
@@ -82,6 +101,7 @@ fn run_bytes(kind: u8, line: &[u8], bytes: [u8; 4096], n: usize) {
     let image = &bytes[..n];
     match kind {
         b'r' => run_runtime(image, lines::number(line, 0)),
+        b'e' => run_extra_info(line, image),
         _ => run_record(kind, line, image),
     }
 }

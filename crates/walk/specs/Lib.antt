@@ -4,3 +4,7 @@ pub mod Names
 pub mod Laws
 pub mod RowLaws
 pub mod Found
+pub mod Passes
+pub mod PassLaws
+pub mod Says
+pub mod Judged

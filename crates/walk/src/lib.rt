@@ -1,1 +1,288 @@
-// The walk over ROM sets and ROM infos (parsing.rs `read_rom_sets`, `read_rom_infos`).
+// The walk over ROM sets and ROM infos (parsing.rs `read_rom_sets`, `read_rom_infos`), the pass that only judges, and what both passes
+// read of the image.
+ghost use mathlib.Core.Path.{_≡_};
+ghost use lib.ListN.{length};
+ghost use Rattle.prog.specs.Prog.{run};
+ghost use Rattle.header.specs.Version.{before, from060};
+ghost use Rattle.header.specs.Header.{hasFilenames};
+ghost use Rattle.walk.specs.Walk.{infoSize, romsOf, walkP};
+ghost use Rattle.walk.specs.Passes.{onFrom, infoNumber, infoPointer, romNumber, romsNumber, tableNumber, pointed, pointedNumber, configOf, overridesOf, headerNumber, partNumber, setNumber, strideOf, setsNumber, setsAt};
+ghost use Rattle.walk.specs.Judged.{walked, judgedOf};
+use header::FirmwareVersion;
+use header::SdrrInfoFields;
+
+// 0, or the number of the walk's refusal; and where it is 0 how many ROMs the sets have.
+pub struct Walked {
+    pub number: u8,
+    pub rom_count: u32,
+}
+
+// ---- a ROM info
+
+// The image from an address on: all of it below the base, and nothing past its end.
+pub fn image_from(image: &[u8], base: u32, address: u64) -> &[u8]
+    ensures { λ r. ⌜ now r ≡ onFrom (now (image .entry)) base address ⌝ }
+{
+    let from = base as u64;
+    if address < from {
+        return image;
+    }
+    let offset = (address - from) as usize;
+    if image.len() < offset {
+        return &image[..0];
+    }
+    &image[offset..]
+}
+
+// With filenames a ROM info is 8 bytes, without 4.
+fn info_size(filenames: bool) -> usize
+    ensures { λ r. ⌜ r ≡ infoSize filenames ⌝ }
+{
+    if filenames { 8 } else { 4 }
+}
+
+// The pointer in an entry of the table.
+pub fn info_ptr(image: &[u8], base: u32, entry: u64) -> u32
+    ensures { λ r. ⌜ r ≡ infoPointer (now (image .entry)) base entry ⌝ }
+{
+    le::u32_at(image_from(image, base, entry), 0)
+}
+
+// What a ROM info's own bytes say.
+fn judge_rom_info(s: &[u8]) -> u8
+    ensures { λ r. ⌜ r ≡ infoNumber (now (s .entry)) ⌝ }
+{
+    if 33 < le::u8_at(s, 0) {
+        return 42;
+    }
+    let last = le::either(2 < le::u8_at(s, 2), 2 < le::u8_at(s, 3));
+    if le::either(2 < le::u8_at(s, 1), last) {
+        return 43;
+    }
+    0
+}
+
+fn judge_rom(image: &[u8], base: u32, filenames: bool, entry: u64) -> u8
+    ensures { λ r. ⌜ r ≡ romNumber (now (image .entry)) base filenames entry ⌝ }
+{
+    if !text::can_read(image, base, entry, 4) {
+        return 2;
+    }
+    let ptr = info_ptr(image, base, entry);
+    if !text::can_read(image, base, ptr as u64, info_size(filenames)) {
+        return 2;
+    }
+    judge_rom_info(image_from(image, base, ptr as u64))
+}
+
+// So many ROMs, whose pointers stand in a table.
+fn judge_roms(image: &[u8], base: u32, filenames: bool, table: u32, count: u8) -> u8
+    ensures { λ r. ⌜ r ≡ romsNumber (now (image .entry)) base filenames table count ⌝ }
+{
+    let mut entry = table as u64;
+    let mut left = count;
+    while left != 0 {
+        let n = judge_rom(image, base, filenames, entry);
+        if n != 0 {
+            return n;
+        }
+        entry += 4;
+        left -= 1;
+    }
+    0
+}
+
+fn judge_rom_infos(image: &[u8], base: u32, filenames: bool, table: u32, count: u8) -> u8
+    ensures { λ r. ⌜ r ≡ tableNumber (now (image .entry)) base filenames count table ⌝ }
+{
+    if count == 0 {
+        return 0;
+    }
+    if table < base {
+        return 3;
+    }
+    judge_roms(image, base, filenames, table, count)
+}
+
+// ---- a ROM set
+
+// A pointer that counts and is there, or 0.
+fn pointed_at(counts: bool, ptr: u32) -> u32
+    ensures { λ r. ⌜ r ≡ pointed counts ptr ⌝ }
+{
+    if le::both(counts, le::both(ptr != 0, ptr != 4294967295)) {
+        return ptr;
+    }
+    0
+}
+
+pub fn serve_config(s: &[u8]) -> u32
+    ensures { λ r. ⌜ r ≡ configOf (now (s .entry)) ⌝ }
+{
+    pointed_at(le::u8_at(s, 15) == 1, le::u32_at(s, 16))
+}
+
+pub fn firmware_overrides(s: &[u8]) -> u32
+    ensures { λ r. ⌜ r ≡ overridesOf (now (s .entry)) ⌝ }
+{
+    pointed_at(le::u8_at(s, 15) == 1, le::u32_at(s, 20))
+}
+
+// What a set's config or overrides address must yield.
+fn judge_pointed(image: &[u8], base: u32, address: u32) -> u8
+    ensures { λ r. ⌜ r ≡ pointedNumber (now (image .entry)) base address ⌝ }
+{
+    if address == 0 {
+        return 0;
+    }
+    if !text::can_read(image, base, address as u64, 64) {
+        return 2;
+    }
+    0
+}
+
+// A set's own bytes, then its config and overrides.
+fn judge_set_header(image: &[u8], base: u32, s: &[u8]) -> u8
+    ensures { λ r. ⌜ r ≡ headerNumber (now (image .entry)) base (now (s .entry)) ⌝ }
+{
+    if 2 < le::u8_at(s, 13) {
+        return 40;
+    }
+    if 2 < le::u8_at(s, 14) {
+        return 41;
+    }
+    let n = judge_pointed(image, base, serve_config(s));
+    if n != 0 {
+        return n;
+    }
+    judge_pointed(image, base, firmware_overrides(s))
+}
+
+// The set whose part of the image is s.
+fn judge_part(image: &[u8], base: u32, filenames: bool, s: &[u8]) -> u8
+    ensures { λ r. ⌜ r ≡ partNumber (now (image .entry)) base filenames (now (s .entry)) ⌝ }
+{
+    let n = judge_set_header(image, base, s);
+    if n != 0 {
+        return n;
+    }
+    judge_rom_infos(image, base, filenames, le::u32_at(s, 8), le::u8_at(s, 12))
+}
+
+// Always 64 bytes are read.
+fn judge_set(image: &[u8], base: u32, filenames: bool, address: u64) -> u8
+    ensures { λ r. ⌜ r ≡ setNumber (now (image .entry)) base filenames address ⌝ }
+{
+    if !text::can_read(image, base, address, 64) {
+        return 2;
+    }
+    judge_part(image, base, filenames, image_from(image, base, address))
+}
+
+// The stride is 16, plus 48 where the longer one is known and the extra byte is 1.
+pub fn set_stride(long: bool, s: &[u8]) -> u64
+    ensures { λ r. ⌜ r ≡ strideOf long (now (s .entry)) ⌝ }
+{
+    if le::both(long, le::u8_at(s, 15) == 1) {
+        return 64;
+    }
+    16
+}
+
+pub fn wide(b: u8) -> u32
+    ensures { λ r. ⌜ r ≡ b ⌝ }
+{
+    b as u32
+}
+
+// So many sets, one after the other; the first stands at a pointer.
+fn judge_sets(image: &[u8], base: u32, filenames: bool, long: bool, ptr: u32, count: u8) -> Walked
+    ensures { λ r. ⌜ r ≡ walked (setsNumber (now (image .entry)) base filenames long ptr count) (length (romsOf (setsAt (now (image .entry)) base filenames long ptr count))) ⌝ }
+{
+    let mut address = ptr as u64;
+    let mut left = count;
+    let mut roms: u32 = 0;
+    while left != 0 {
+        let n = judge_set(image, base, filenames, address);
+        if n != 0 {
+            return Walked {
+                number: n,
+                rom_count: 0,
+            };
+        }
+        let s = image_from(image, base, address);
+        roms += wide(le::u8_at(s, 12));
+        address += set_stride(long, s);
+        left -= 1;
+    }
+    Walked {
+        number: 0,
+        rom_count: roms,
+    }
+}
+
+// ---- the walk
+
+fn is_before(v: FirmwareVersion, w: FirmwareVersion) -> bool
+    ensures { λ r. ⌜ r ≡ before v w ⌝ }
+{
+    let build = le::both(v.patch == w.patch, v.build < w.build);
+    let patch = le::both(v.minor == w.minor, le::either(v.patch < w.patch, build));
+    let minor = le::both(v.major == w.major, le::either(v.minor < w.minor, patch));
+    le::either(v.major < w.major, minor)
+}
+
+// From 0.5.1, or with boot logging.
+pub fn filenames_enabled(fields: SdrrInfoFields) -> bool
+    ensures { λ r. ⌜ r ≡ hasFilenames fields ⌝ }
+{
+    let version = fields.version;
+    let first = FirmwareVersion {
+        major: 0,
+        minor: 5,
+        patch: 1,
+        build: 0,
+    };
+    le::either(!is_before(version, first), fields.boot_logging_enabled)
+}
+
+// From 0.6.0.
+pub fn long_strides(fields: SdrrInfoFields) -> bool
+    ensures { λ r. ⌜ r ≡ from060 (fields .version) ⌝ }
+{
+    let version = fields.version;
+    let first = FirmwareVersion {
+        major: 0,
+        minor: 6,
+        patch: 0,
+        build: 0,
+    };
+    !is_before(version, first)
+}
+
+// The first pass: the number of the walk, and where it is accepted how many ROMs its sets have.
+pub fn judge_rom_sets(
+    image: &[u8],
+    base: u32,
+    fields: SdrrInfoFields,
+    count: u8,
+    ptr: u32,
+) -> Walked
+    ensures { λ r. ⌜ r ≡ judgedOf (run (walkP base fields count ptr) (now (image .entry))) ⌝ }
+{
+    if count == 0 {
+        return Walked {
+            number: 0,
+            rom_count: 0,
+        };
+    }
+    if ptr < base {
+        return Walked {
+            number: 3,
+            rom_count: 0,
+        };
+    }
+    let filenames = filenames_enabled(fields);
+    let long = long_strides(fields);
+    judge_sets(image, base, filenames, long, ptr, count)
+}

@@ -19,6 +19,9 @@ number-requires c κs = search needs
 run-runtime-requires : tie.Need-run-runtime-requires
 run-runtime-requires c κs = search needs
 
+run-extra-info-requires : tie.Need-run-extra-info-requires
+run-extra-info-requires c κs = search needs
+
 run-record-requires : tie.Need-run-record-requires
 run-record-requires c κs = search needs
 
@@ -27,6 +30,9 @@ returns-2 c = search needs
 
 returns-3 : tie.Need-returns-3
 returns-3 c = search needs
+
+returns-4 : tie.Need-returns-4
+returns-4 c = search needs
 
 pub run-bytes-spec : {M : Type 1} → statement M
 run-bytes-spec =
@@ -37,6 +43,8 @@ run-bytes-spec =
     slice-aggregate-image
     number-requires
     run-runtime-requires
+    run-extra-info-requires
     run-record-requires
     returns-2
-    returns-3)
+    returns-3
+    returns-4)

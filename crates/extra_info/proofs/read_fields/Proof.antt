@@ -1,0 +1,52 @@
+use mathlib.Core.Path.{_∙_, ap}
+use borrow.Author.Needs.{needs}
+use Rattle.types.specs.Types.{portOf}
+use Rattle.extra_info.specs.ExtraInfo.{fieldsOf}
+use Rattle.extra_info.proofs.read_fields.Statement.{statement}
+use Rattle.extra_info.proofs.read_fields.Tie as tie
+
+u32-at-requires : tie.Need-u32-at-requires
+u32-at-requires c κs = search needs
+
+flag-at-requires : tie.Need-flag-at-requires
+flag-at-requires c κs = search needs
+
+u8-at-requires : tie.Need-u8-at-requires
+u8-at-requires c κs = search needs
+
+port-of-requires : tie.Need-port-of-requires
+port-of-requires c κs = search needs
+
+u8-at-requires-2 : tie.Need-u8-at-requires-2
+u8-at-requires-2 c κs = search needs
+
+fire-pio-default-requires : tie.Need-fire-pio-default-requires
+fire-pio-default-requires c κs = search needs
+
+u32-at-requires-2 : tie.Need-u32-at-requires-2
+u32-at-requires-2 c κs = search needs
+
+returns : tie.Need-returns
+unfolding fieldsOf
+returns c = λ i.
+    record {
+      «rtt_ptr» = c .before .before .before .before .before .before .u32-at .ensures i;
+      «usb_dfu» = c .before .before .before .before .before .flag-at .ensures i;
+      «usb_port» = (c .before .before .before .port-of .ensures ∙ ap portOf (c .before .before .before .before .u8-at .ensures)) i;
+      «vbus_pin» = c .before .before .u8-at2 .ensures i;
+      «fire_pio_default» = c .before .fire-pio-default .ensures i;
+      «runtime_info_ptr» = c .u32-at2 .ensures i;
+    }
+
+pub read-fields-spec : {M : Type 1} → statement M
+read-fields-spec =
+    tie.close
+    (tie.spec
+    u32-at-requires
+    flag-at-requires
+    u8-at-requires
+    port-of-requires
+    u8-at-requires-2
+    fire-pio-default-requires
+    u32-at-requires-2
+    returns)

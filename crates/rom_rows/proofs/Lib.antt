@@ -1,0 +1,2 @@
+pub mod RowSteps
+pub mod ReadSteps

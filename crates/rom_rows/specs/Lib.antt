@@ -1,0 +1,2 @@
+pub mod RowWords
+pub mod Reply

@@ -1,0 +1,18 @@
+use borrow.Author.Needs.{needs}
+use Rattle.walk.proofs.firmware_overrides.Statement.{statement}
+use Rattle.walk.proofs.firmware_overrides.Tie as tie
+
+u8-at-requires : tie.Need-u8-at-requires
+u8-at-requires c κs = search needs
+
+u32-at-requires : tie.Need-u32-at-requires
+u32-at-requires c κs = search needs
+
+pointed-at-requires : tie.Need-pointed-at-requires
+pointed-at-requires c κs = search needs
+
+returns : tie.Need-returns
+returns c = cc
+
+pub firmware-overrides-spec : {M : Type 1} → statement M
+firmware-overrides-spec = tie.close (tie.spec u8-at-requires u32-at-requires pointed-at-requires returns)

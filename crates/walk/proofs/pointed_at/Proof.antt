@@ -1,0 +1,19 @@
+use borrow.Author.Needs.{needs}
+use Rattle.walk.proofs.Steps.{pointed-there, pointed-absent}
+use Rattle.walk.proofs.pointed_at.Statement.{statement}
+use Rattle.walk.proofs.pointed_at.Tie as tie
+
+both-requires : tie.Need-both-requires
+both-requires c κs = search needs
+
+both-requires-2 : tie.Need-both-requires-2
+both-requires-2 c κs = search needs
+
+returns : tie.Need-returns
+returns c = pointed-there _ _ (c .before .both2 .result) (cc) (c .if1 .taken)
+
+returns-2 : tie.Need-returns-2
+returns-2 c = pointed-absent _ _ (c .before .both2 .result) (cc) (c .if1 .left)
+
+pub pointed-at-spec : {M : Type 1} → statement M
+pointed-at-spec = tie.close (tie.spec both-requires both-requires-2 returns returns-2)

@@ -71,6 +71,30 @@ uint32_t onerom_runtime(const uint8_t *record, size_t record_len, uint32_t ram_b
  * 20: 1,024 bytes, no NUL. 21: not UTF-8. */
 uint32_t onerom_string(const uint8_t *image, size_t image_len, uint32_t base, uint32_t pointer, uint32_t part[2]);
 
+/* A logical address becomes the offset of its byte in a set, by set 0's ROM count and first ROM type.
+ *
+ * pins_number    the pins item's number
+ * rom_pins       the pins record's ROM pins byte
+ * addr           its sixteen address pins
+ * control        its pins CS1, CS2, CS3, X1, X2, CE, OE
+ * served         the sets served
+ * set_rows       lent set rows, eight words each; set_words of them in all
+ * rom_rows       lent ROM rows, seven words each; rom_words of them in all
+ * levels         CS1, CS2, CS3, X1, X2: 1 is high, every other is low
+ * value          the offset, written where the address is accepted
+ *
+ * 70: no pins. 71: no sets. 4: a needed row isn't among those lent, or its type is above 33. 72: X1 or X2 at 16 or above.
+ * 73: either already mapped. 74: set 0 has no ROM. 75: unsupported type. 76: a control pin at 16 or above.
+ * 77: address above the mask. 78: 28C16. */
+uint32_t onerom_mangle(uint8_t pins_number, uint8_t rom_pins, const uint8_t addr[16], const uint8_t control[7], uint32_t served,
+                       const uint32_t *set_rows, size_t set_words, const uint32_t *rom_rows, size_t rom_words, uint32_t address,
+                       const uint8_t levels[5], uint32_t *value);
+
+/* A stored byte becomes the byte that is served: logic bit i is the byte's bit at data pin i.
+ *
+ * 70: no pins. 79: a data pin at 8 or above. */
+uint32_t onerom_demangle(uint8_t pins_number, const uint8_t data[8], uint8_t byte, uint8_t *value);
+
 #ifdef __cplusplus
 }
 #endif

@@ -76,8 +76,34 @@ static void strings(void) {
     expect(string_at(image + 1000, 64, BASE, BASE + 24, p) == 2, "a chunk past the end");
 }
 
+static void boards(void) {
+    static const uint8_t addr[16] = {0, 1, 2, 3, 4, 5, 6, 7, 8, 9, 10, 11, 12, 255, 255, 255};
+    static const uint8_t control[7] = {13, 255, 255, 255, 255, 255, 255};
+    static const uint8_t data[8] = {7, 6, 5, 4, 3, 2, 1, 0};
+    static const uint8_t levels[5] = {1, 0, 2, 255, 0};
+    static const uint32_t sets[8] = {0, 8192, 0, 1, 0, 0, 0, 0};
+    static const uint32_t roms[7] = {2, 0, 2, 2, 0, 0, 1};
+    uint8_t bad[8];
+    uint32_t v = 77;
+    uint8_t b = 77;
+    expect(onerom_mangle(0, 24, addr, control, 1, sets, 8, roms, 7, 5, levels, &v) == 0 && v == 8197, "M1");
+    v = 77;
+    expect(onerom_mangle(0, 24, addr, control, 1, sets, 8, roms, 7, 8192, levels, &v) == 77 && v == 77, "M3");
+    expect(onerom_mangle(2, 24, addr, control, 1, sets, 8, roms, 7, 5, levels, &v) == 70 && v == 77, "70");
+    expect(onerom_mangle(0, 24, addr, control, 0, sets, 8, roms, 7, 5, levels, &v) == 71 && v == 77, "71");
+    expect(onerom_mangle(0, 24, addr, control, 1, NULL, 0, NULL, 0, 5, levels, &v) == 4 && v == 77, "4");
+    expect(onerom_mangle(0, 24, addr, control, 1, sets, 8, roms, 6, 5, levels, &v) == 4 && v == 77, "4, ROM row");
+    expect(onerom_demangle(0, data, 1, &b) == 0 && b == 128, "D1");
+    memcpy(bad, data, 8);
+    bad[3] = 8;
+    b = 77;
+    expect(onerom_demangle(0, bad, 1, &b) == 79 && b == 77, "D2");
+    expect(onerom_demangle(3, data, 1, &b) == 70 && b == 77, "70, demangle");
+}
+
 int main(void) {
     runtime_record();
+    boards();
     strings();
     if (!failed) printf("ok\n");
     return failed;

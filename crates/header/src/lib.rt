@@ -2,7 +2,7 @@
 use types::McuLine;
 use types::McuStorage;
 ghost use mathlib.Core.Path.{_≡_};
-ghost use Prim.Native.Nat.{_+_, _≤_};
+ghost use Prim.Native.Nat.{_≤_};
 ghost use lib.ListN.{length};
 ghost use Rattle.types.specs.Types.{lineOf, storageOf};
 ghost use Rattle.prog.specs.Prog.{run};
@@ -102,7 +102,7 @@ pub fn from_0_5_1(v: FirmwareVersion) -> bool
     !is_before(v, release(0, 5, 1))
 }
 
-// The PIO default flag is given from 0.6.0.
+// From 0.6.0 the PIO default flag is given, and the stride is longer.
 pub fn from_0_6_0(v: FirmwareVersion) -> bool
     ensures { λ r. ⌜ r ≡ from060 v ⌝ }
 {

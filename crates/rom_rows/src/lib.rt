@@ -179,8 +179,8 @@ pub fn read_rom_sets(
     if rom_rows.len() < 7 * (judged.rom_count as usize) {
         return refuse(45);
     }
-    let filenames = walk::filenames_enabled(fields);
-    let long = walk::long_strides(fields);
+    let filenames = header::filenames_enabled(fields);
+    let long = header::from_0_6_0(fields.version);
     write_rom_sets(image, base, filenames, long, count, ptr, set_rows, rom_rows);
     judged
 }

@@ -1,4 +1,4 @@
--- What the walk's code replies, by what the walk answers.
+-- What the pass that judges replies, by what the walk answers.
 -- Assumes nothing.
 use Prim.Native.Nat.{ℕ}
 use mathlib.Core.Path.{_≡_, refl}

@@ -3,12 +3,9 @@
 ghost use mathlib.Core.Path.{_≡_};
 ghost use lib.ListN.{length};
 ghost use Rattle.prog.specs.Prog.{run};
-ghost use Rattle.header.specs.Version.{before, from060};
-ghost use Rattle.header.specs.Header.{hasFilenames};
 ghost use Rattle.walk.specs.Walk.{infoSize, romsOf, walkP};
 ghost use Rattle.walk.specs.Passes.{onFrom, infoNumber, infoPointer, romNumber, romsNumber, tableNumber, pointed, pointedNumber, configOf, overridesOf, headerNumber, partNumber, setNumber, strideOf, setsNumber, setsAt};
 ghost use Rattle.walk.specs.Judged.{walked, judgedOf};
-use header::FirmwareVersion;
 use header::SdrrInfoFields;
 
 // 0, or the number of the walk's refusal; and where it is 0 how many ROMs the sets have.
@@ -16,8 +13,6 @@ pub struct Walked {
     pub number: u8,
     pub rom_count: u32,
 }
-
-// ---- a ROM info
 
 // The image from an address on: all of it below the base, and nothing past its end.
 pub fn image_from(image: &[u8], base: u32, address: u64) -> &[u8]
@@ -33,6 +28,8 @@ pub fn image_from(image: &[u8], base: u32, address: u64) -> &[u8]
     }
     &image[offset..]
 }
+
+// ---- ROM infos
 
 // With filenames a ROM info is 8 bytes, without 4.
 fn info_size(filenames: bool) -> usize
@@ -104,7 +101,7 @@ fn judge_rom_infos(image: &[u8], base: u32, filenames: bool, table: u32, count: 
     judge_roms(image, base, filenames, table, count)
 }
 
-// ---- a ROM set
+// ---- ROM sets
 
 // A pointer that counts and is there, or 0.
 fn pointed_at(counts: bool, ptr: u32) -> u32
@@ -223,43 +220,6 @@ fn judge_sets(image: &[u8], base: u32, filenames: bool, long: bool, ptr: u32, co
 
 // ---- the walk
 
-fn is_before(v: FirmwareVersion, w: FirmwareVersion) -> bool
-    ensures { λ r. ⌜ r ≡ before v w ⌝ }
-{
-    let build = le::both(v.patch == w.patch, v.build < w.build);
-    let patch = le::both(v.minor == w.minor, le::either(v.patch < w.patch, build));
-    let minor = le::both(v.major == w.major, le::either(v.minor < w.minor, patch));
-    le::either(v.major < w.major, minor)
-}
-
-// From 0.5.1, or with boot logging.
-pub fn filenames_enabled(fields: SdrrInfoFields) -> bool
-    ensures { λ r. ⌜ r ≡ hasFilenames fields ⌝ }
-{
-    let version = fields.version;
-    let first = FirmwareVersion {
-        major: 0,
-        minor: 5,
-        patch: 1,
-        build: 0,
-    };
-    le::either(!is_before(version, first), fields.boot_logging_enabled)
-}
-
-// From 0.6.0.
-pub fn long_strides(fields: SdrrInfoFields) -> bool
-    ensures { λ r. ⌜ r ≡ from060 (fields .version) ⌝ }
-{
-    let version = fields.version;
-    let first = FirmwareVersion {
-        major: 0,
-        minor: 6,
-        patch: 0,
-        build: 0,
-    };
-    !is_before(version, first)
-}
-
 // The first pass: the number of the walk, and where it is accepted how many ROMs its sets have.
 pub fn judge_rom_sets(
     image: &[u8],
@@ -282,7 +242,7 @@ pub fn judge_rom_sets(
             rom_count: 0,
         };
     }
-    let filenames = filenames_enabled(fields);
-    let long = long_strides(fields);
+    let filenames = header::filenames_enabled(fields);
+    let long = header::from_0_6_0(fields.version);
     judge_sets(image, base, filenames, long, ptr, count)
 }

@@ -48,8 +48,8 @@ returns-3 c =
 filenames-enabled-requires : tie.Need-filenames-enabled-requires
 filenames-enabled-requires c κs = search needs
 
-long-strides-requires : tie.Need-long-strides-requires
-long-strides-requires c κs = search needs
+from-0-6-0-requires : tie.Need-from-0-6-0-requires
+from-0-6-0-requires c κs = search needs
 
 write-rom-sets-requires : tie.Need-write-rom-sets-requires
 write-rom-sets-requires c κs =
@@ -61,7 +61,7 @@ write-rom-sets-requires c κs =
     let a = j .before .before .before .before .args in (
       g .if2 .left,
       enough (a .image .now) (a .base) (a .fields) (a .count) (a .ptr) (a .set-rows .now) (a .rom-rows .now) _ (j .judge-rom-sets .ensures) (d .if1 .left) (g .if2 .left) (e .if3 .left)
-          _ _ (k .before .filenames-enabled .ensures) (k .long-strides .ensures),
+          _ _ (k .before .filenames-enabled .ensures) (k .from-0-6-0 .ensures),
     )
 
 same-length : tie.Need-same-length
@@ -80,7 +80,7 @@ returns-4 c =
     let j = d .before .before in
     let a = j .before .before .before .before .args in
     let l = left-written (a .image .now) (a .base) (a .fields) (a .count) (a .ptr) (a .set-rows .now) (a .rom-rows .now) _ (j .judge-rom-sets .ensures) (d .if1 .left) (g .if2 .left) (e .if3 .left)
-    _ _ (k .before .filenames-enabled .ensures) (k .long-strides .ensures) _ _ (w .write-rom-sets .ensures .0) (w .write-rom-sets .ensures .1) in
+    _ _ (k .before .filenames-enabled .ensures) (k .from-0-6-0 .ensures) _ _ (w .write-rom-sets .ensures .0) (w .write-rom-sets .ensures .1) in
     (l .reply, (l .set-rows, l .rom-rows))
 
 pub read-rom-sets-spec : {M : Type 1} → statement M
@@ -97,7 +97,7 @@ read-rom-sets-spec =
     refuse-requires-2
     returns-3
     filenames-enabled-requires
-    long-strides-requires
+    from-0-6-0-requires
     write-rom-sets-requires
     same-length
     same-length-2

@@ -12,8 +12,8 @@ returns-2 c = walk-below _ _ _ _ _ (c .before .if1 .left) (c .if2 .taken)
 filenames-enabled-requires : tie.Need-filenames-enabled-requires
 filenames-enabled-requires c κs = search needs
 
-long-strides-requires : tie.Need-long-strides-requires
-long-strides-requires c κs = search needs
+from-0-6-0-requires : tie.Need-from-0-6-0-requires
+from-0-6-0-requires c κs = search needs
 
 judge-sets-requires : tie.Need-judge-sets-requires
 judge-sets-requires c κs = search needs
@@ -21,7 +21,7 @@ judge-sets-requires c κs = search needs
 returns-3 : tie.Need-returns-3
 returns-3 c =
     let d = c .before .before .before in
-    walk-sets _ _ _ _ _ (d .before .if1 .left) (d .if2 .left) _ _ (c .before .before .filenames-enabled .ensures) (c .before .long-strides .ensures) _ (c .judge-sets .ensures)
+    walk-sets _ _ _ _ _ (d .before .if1 .left) (d .if2 .left) _ _ (c .before .before .filenames-enabled .ensures) (c .before .from-0-6-0 .ensures) _ (c .judge-sets .ensures)
 
 pub judge-rom-sets-spec : {M : Type 1} → statement M
 judge-rom-sets-spec =
@@ -30,6 +30,6 @@ judge-rom-sets-spec =
     returns
     returns-2
     filenames-enabled-requires
-    long-strides-requires
+    from-0-6-0-requires
     judge-sets-requires
     returns-3)

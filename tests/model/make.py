@@ -199,6 +199,9 @@ def main():
         given = (*numbers, pins)
         assert mangle.answer(kind, given) == reply, text
         out.append((line(kind, *given), reply))
+    for kind, given, reply in mangle.bench_cases():
+        assert mangle.answer(kind, given) == reply, given
+        out.append((line(kind, *given), reply))
     for given in mangle.all_levels():
         answers = []
         for i in range(32):

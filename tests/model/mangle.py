@@ -138,3 +138,15 @@ def all_levels():
                 board = list(BOARD24)
                 board[at] = min(255, pin + 8)
                 yield 0, 1, 8, 7, 0, 2, kind, 1, bytes(board)
+
+
+def bench_cases():
+    """Document 01's D1, D2 and M1 to M4, with the answers that it gives."""
+    yield "d", (0, 1, bytes([7, 6, 5, 4, 3, 2, 1, 0])), (0, 128)
+    yield "d", (0, 1, bytes([7, 6, 5, 8, 3, 2, 1, 0])), (79, 0)
+    for up in (0, 8):
+        pins = bytes([24] + [255] * 8 + [up + p for p in range(13)] + [255] * 3 + [up + 13] + [255] * 6)
+        yield "g", (0, 1, 8, 7, 0, 1, 2, 5, 0x22221, pins), (0, 8197)
+        yield "g", (0, 1, 8, 7, 0, 1, 2, 8192, 0x22221, pins), (77, 0)
+    pins = bytes([24] + [255] * 8 + list(range(11)) + [255] * 5 + [13, 11, 12] + [255] * 4)
+    yield "g", (0, 1, 8, 7, 0, 1, 0, 0, 0x22212, pins), (0, 4096)

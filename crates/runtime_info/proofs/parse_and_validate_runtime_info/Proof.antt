@@ -34,7 +34,8 @@ unfolding headerOf
 returns-3 c =
     let e : startsWith (c .before .before .before .before .before .before .before .args .«data» .now) magic ≡ true =
     sym (c .before .before .before .starts-with .ensures) ∙ not-false _ (c .before .before .if2 .left) in
-    rw (le-ltb _ _ (c .before .before .before .before .before .if1 .left), e, ← c .before .u8-at .ensures, lt-ltb _ _ (c .if3 .taken))
+    let low : c .before .u8-at .result < 20 = omega arith in
+    rw (le-ltb _ _ (c .before .before .before .before .before .if1 .left), e, ← c .before .u8-at .ensures, lt-ltb _ _ low)
 
 returns-4 : tie.Need-returns-4
 unfolding headerOf
@@ -42,7 +43,8 @@ returns-4 c =
     let e : startsWith (c .before .before .before .before .before .before .before .before .args .«data» .now) magic ≡ true =
     sym (c .before .before .before .before .starts-with .ensures) ∙ not-false _ (c .before .before .before .if2 .left) in
     let over : 4294967295 < c .before .before .before .before .before .before .before .before .args .ram-base + 8 = omega arith in
-    rw (le-ltb _ _ (c .before .before .before .before .before .before .if1 .left), e, ← c .before .before .u8-at .ensures, le-ltb _ _ (c .before .if3 .left), lt-ltb _ _ over)
+    let high : 20 ≤ c .before .before .u8-at .result = omega arith in
+    rw (le-ltb _ _ (c .before .before .before .before .before .before .if1 .left), e, ← c .before .before .u8-at .ensures, le-ltb _ _ high, lt-ltb _ _ over)
 
 read-head-requires : tie.Need-read-head-requires
 read-head-requires c κs = search needs
@@ -53,7 +55,8 @@ returns-5 c =
     let e : startsWith (c .before .before .before .before .before .before .before .before .before .args .«data» .now) magic ≡ true =
     sym (c .before .before .before .before .before .starts-with .ensures) ∙ not-false _ (c .before .before .before .before .if2 .left) in
     let fits : c .before .before .before .before .before .before .before .before .before .args .ram-base + 8 ≤ 4294967295 = omega arith in
-    rw (le-ltb _ _ (c .before .before .before .before .before .before .before .if1 .left), e, ← c .before .before .before .u8-at .ensures, le-ltb _ _ (c .before .before .if3 .left), le-ltb _ _ fits) (ap RuntimeHeader.Head (c .read-head .ensures))
+    let high : 20 ≤ c .before .before .before .u8-at .result = omega arith in
+    rw (le-ltb _ _ (c .before .before .before .before .before .before .before .if1 .left), e, ← c .before .before .before .u8-at .ensures, le-ltb _ _ high, le-ltb _ _ fits) (ap RuntimeHeader.Head (c .read-head .ensures))
 
 pub parse-and-validate-runtime-info-spec : {M : Type 1} → statement M
 parse-and-validate-runtime-info-spec =

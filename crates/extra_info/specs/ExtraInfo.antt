@@ -9,8 +9,8 @@ use Rattle.le.specs.Le.{u8At, u32At, flagAt}
 use Rattle.types.specs.declared.SdrrMcuPort.{SdrrMcuPort}
 use Rattle.types.specs.Types.{portOf}
 use Rattle.prog.specs.Prog.{Prog, done, fetch}
-use Rattle.header.specs.declared.FirmwareVersion.{FirmwareVersion}
-use Rattle.header.specs.Version.{from060}
+use Rattle.version.specs.declared.FirmwareVersion.{FirmwareVersion}
+use Rattle.version.specs.Version.{from060}
 use Rattle.extra_info.specs.declared.FirePioDefault.{FirePioDefault}
 use Rattle.extra_info.specs.declared.SdrrExtraInfo.{SdrrExtraInfo}
 use Rattle.extra_info.specs.declared.ExtraInfoItem.{ExtraInfoItem}

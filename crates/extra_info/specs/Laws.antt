@@ -9,8 +9,8 @@ use borrow.Author.Tests.{lt-ltb, le-ltb}
 use Rattle.le.specs.Le.{flagAt}
 use Rattle.prog.specs.Honest.{Honest, honesty}
 use Rattle.prog.specs.Record.{front-byte, front-short}
-use Rattle.header.specs.declared.FirmwareVersion.{FirmwareVersion}
-use Rattle.header.specs.Version.{from060}
+use Rattle.version.specs.declared.FirmwareVersion.{FirmwareVersion}
+use Rattle.version.specs.Version.{from060}
 use Rattle.extra_info.specs.declared.FirePioDefault.{FirePioDefault}
 use Rattle.extra_info.specs.declared.ExtraInfoItem.{ExtraInfoItem}
 use Rattle.extra_info.specs.ExtraInfo.{pioDefaultOf, fieldsOf, refused, extraInfoOf, extraInfoP}

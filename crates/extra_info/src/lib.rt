@@ -1,6 +1,6 @@
 // Extra info (info.rs `SdrrExtraInfo`, parsing.rs `read_extra_info`).
-use header::FirmwareVersion;
 use types::SdrrMcuPort;
+use version::FirmwareVersion;
 ghost use mathlib.Core.Path.{_≡_};
 ghost use Rattle.prog.specs.Prog.{run};
 ghost use Rattle.extra_info.specs.ExtraInfo.{pioDefaultOf, fieldsOf, refused, extraInfoOf, extraInfoP};
@@ -47,7 +47,7 @@ fn refuse(number: u8) -> ExtraInfoItem
 fn fire_pio_default(data: &[u8], version: FirmwareVersion) -> FirePioDefault
     ensures { λ r. ⌜ r ≡ pioDefaultOf version (now («data» .entry)) ⌝ }
 {
-    if !header::from_0_6_0(version) {
+    if !version::from_0_6_0(version) {
         return FirePioDefault::NotGiven;
     }
     FirePioDefault::Given(le::flag_at(data, 7))

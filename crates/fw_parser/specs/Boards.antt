@@ -14,7 +14,7 @@ use Rattle.types.specs.declared.McuStorage.{McuStorage}
 use Rattle.types.specs.declared.SdrrMcuPort.{SdrrMcuPort}
 use Rattle.types.specs.Types.{lineOf, isRp2350, storageOf, portOf}
 use Rattle.text.specs.Text.{hasNul, beforeNul, judged, chunksP, textP, accepted}
-use Rattle.header.specs.Version.{version, before}
+use Rattle.version.specs.Version.{version, before}
 use Rattle.header.specs.Header.{fieldsOf, wholeOf, headerOf, headerP}
 use Rattle.extra_info.specs.declared.FirePioDefault.{FirePioDefault}
 use Rattle.extra_info.specs.ExtraInfo.{noExtraInfo, extraInfoOf, extraInfoP}

@@ -21,7 +21,7 @@ use Rattle.text.specs.Text.{textP}
 use Rattle.text.specs.Laws.{text-honest}
 use Rattle.header.specs.declared.SdrrInfoHeader.{SdrrInfoHeader}
 use Rattle.header.specs.declared.HeaderAnswer.{HeaderAnswer}
-use Rattle.header.specs.Version.{from050}
+use Rattle.version.specs.Version.{from050}
 use Rattle.header.specs.Laws.{header-honest}
 use Rattle.extra_info.specs.declared.ExtraInfoItem.{ExtraInfoItem}
 use Rattle.extra_info.specs.ExtraInfo.{extraInfoP}

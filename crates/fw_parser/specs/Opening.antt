@@ -11,7 +11,7 @@ use Rattle.text.specs.Text.{textP}
 use Rattle.header.specs.declared.SdrrInfoFields.{SdrrInfoFields}
 use Rattle.header.specs.declared.SdrrInfoHeader.{SdrrInfoHeader}
 use Rattle.header.specs.declared.HeaderAnswer.{HeaderAnswer}
-use Rattle.header.specs.Version.{from050}
+use Rattle.version.specs.Version.{from050}
 use Rattle.header.specs.Header.{headerP, baseAfter}
 use Rattle.extra_info.specs.declared.ExtraInfoItem.{ExtraInfoItem}
 use Rattle.extra_info.specs.ExtraInfo.{extraInfoP}

@@ -13,7 +13,7 @@ use Rattle.prog.specs.Run.{run-done, run-map}
 use Rattle.text.specs.declared.Text.{Text}
 use Rattle.header.specs.declared.SdrrInfoHeader.{SdrrInfoHeader}
 use Rattle.header.specs.declared.SdrrInfoFields.{SdrrInfoFields}
-use Rattle.header.specs.Version.{from060}
+use Rattle.version.specs.Version.{from060}
 use Rattle.walk.specs.Walk.{RomSet, Part, stop, found, walkP, romsOf, extraByte, stride}
 use Rattle.walk.specs.Rows.{countsOf}
 use Rattle.walk.specs.Found.{Sound, Counted, walk-sound, counts-roms}

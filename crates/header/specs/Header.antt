@@ -10,11 +10,11 @@ use Rattle.types.specs.declared.McuLine.{McuLine}
 use Rattle.types.specs.declared.McuStorage.{McuStorage}
 use Rattle.types.specs.Types.{lineOf, isRp2350, storageOf}
 use Rattle.prog.specs.Prog.{Prog, done, fetch}
-use Rattle.header.specs.declared.FirmwareVersion.{FirmwareVersion}
+use Rattle.version.specs.declared.FirmwareVersion.{FirmwareVersion}
 use Rattle.header.specs.declared.SdrrInfoFields.{SdrrInfoFields}
 use Rattle.header.specs.declared.SdrrInfoHeader.{SdrrInfoHeader}
 use Rattle.header.specs.declared.HeaderAnswer.{HeaderAnswer}
-use Rattle.header.specs.Version.{version, below04, from051, from070}
+use Rattle.version.specs.Version.{version, below04, from051, from070}
 
 -- "SDRR"
 abbrev pub magic : List ℕ

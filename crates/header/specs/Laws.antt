@@ -1,10 +1,10 @@
--- The version order by its first difference. The header: a failed read is number 2; its refusals in order; only its first 64 bytes count.
+-- The header: a failed read is number 2; its refusals in order; only its first 64 bytes count.
 -- Assumes nothing.
 use Prim.Native.Nat.{ℕ, _+_, _-_, _≤_, _<_}
 use native.Mathlib.Omega.{arith}
 use native.Mathlib.Nat.{add-sub-cancel-left}
 use mathlib.Core.Path.{_≡_, refl, ap, _∙_}
-use mathlib.Core.Bool.{true, false, or-false}
+use mathlib.Core.Bool.{true, false}
 use mathlib.Core.List.{List}
 use lib.Dec.{ltb}
 use lib.ListN.{length, take, drop}
@@ -14,38 +14,12 @@ use Rattle.prog.specs.Prog.{canRead, run}
 use Rattle.prog.specs.Honest.{Honest, honesty}
 use Rattle.prog.specs.Record.{front-byte, front-short, front-starts, record-ended, record-onward}
 use Rattle.header.specs.declared.HeaderAnswer.{HeaderAnswer}
-use Rattle.header.specs.declared.FirmwareVersion.{FirmwareVersion}
-use Rattle.header.specs.Version.{before, below04, from070}
+use Rattle.version.specs.Version.{below04, from070}
 use Rattle.header.specs.Header.{magic, versionOf, fieldsOf, extraPointer, wholeOf, refused, headerOf, headerP}
 
 pub header-honest : (flashBase infoOffset : ℕ) → Honest (λ (a : HeaderAnswer). a .number ≡ 2) (headerP flashBase infoOffset)
 unfolding headerP
 header-honest flashBase infoOffset = search honesty
-
-module _ (v w : FirmwareVersion) where
-  pub before-major : (v .major ≡ w .major → ⊥) → before v w ≡ ltb (v .major) (w .major)
-  unfolding before
-  before-major h = rw (ne-eqb (v .major) (w .major) h) (or-false (ltb (v .major) (w .major)))
-
-  module _ (a : v .major ≡ w .major) where
-    pub before-minor : (v .minor ≡ w .minor → ⊥) → before v w ≡ ltb (v .minor) (w .minor)
-    unfolding before
-    before-minor h =
-        rw (le-ltb (v .major) (w .major) (omega arith), eq-eqb (v .major) (w .major) a, ne-eqb (v .minor) (w .minor) h) (or-false (ltb (v .minor) (w .minor)))
-
-    module _ (b : v .minor ≡ w .minor) where
-      pub before-patch : (v .patch ≡ w .patch → ⊥) → before v w ≡ ltb (v .patch) (w .patch)
-      unfolding before
-      before-patch h =
-          rw (le-ltb (v .major) (w .major) (omega arith), eq-eqb (v .major) (w .major) a, le-ltb (v .minor) (w .minor) (omega arith), eq-eqb (v .minor) (w .minor) b, ne-eqb (v .patch) (w .patch) h)
-          (or-false (ltb (v .patch) (w .patch)))
-
-      pub before-build : v .patch ≡ w .patch → before v w ≡ ltb (v .build) (w .build)
-      unfolding before
-      before-build d =
-          rw (le-ltb (v .major) (w .major) (omega arith), eq-eqb (v .major) (w .major) a, le-ltb (v .minor) (w .minor) (omega arith), eq-eqb (v .minor) (w .minor) b, le-ltb (v .patch) (w .patch) (omega arith), eq-eqb (v .patch) (w .patch) d)
-
--- ---- the header
 
 pub header-front : (s : List ℕ) → headerOf (take 64 s) ≡ headerOf s
 unfolding headerOf wholeOf fieldsOf

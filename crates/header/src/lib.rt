@@ -1,22 +1,15 @@
 // The info header (parsing.rs `SdrrInfoHeader`, `parse_and_validate_header`).
 use types::McuLine;
 use types::McuStorage;
+use version::FirmwareVersion;
 ghost use mathlib.Core.Path.{_≡_};
 ghost use Prim.Native.Nat.{_≤_};
 ghost use lib.ListN.{length};
 ghost use Rattle.types.specs.Types.{lineOf, storageOf};
 ghost use Rattle.prog.specs.Prog.{run};
-ghost use Rattle.header.specs.Version.{version, before, below04, from050, from051, from060, from070};
 ghost use Rattle.header.specs.Header.{versionOf, fourAt, eightAt, fieldsOf, extraPointer, wholeOf, noHeader, refused, headerOf, headerP, baseAfter, hasFilenames};
 
 const HEADER_SIZE: usize = 64;
-
-pub struct FirmwareVersion {
-    pub major: u16,
-    pub minor: u16,
-    pub patch: u16,
-    pub build: u16,
-}
 
 // The header's fields that the report keeps.
 pub struct SdrrInfoFields {
@@ -53,74 +46,14 @@ pub struct HeaderAnswer {
     pub header: SdrrInfoHeader,
 }
 
-// Whether v comes before w: by major, then minor, then patch, then build.
-pub fn is_before(v: FirmwareVersion, w: FirmwareVersion) -> bool
-    ensures { λ r. ⌜ r ≡ before v w ⌝ }
-{
-    if v.major != w.major {
-        return v.major < w.major;
-    }
-    if v.minor != w.minor {
-        return v.minor < w.minor;
-    }
-    if v.patch != w.patch {
-        return v.patch < w.patch;
-    }
-    v.build < w.build
-}
-
-// A release: build 0.
-fn release(major: u16, minor: u16, patch: u16) -> FirmwareVersion
-    ensures { λ r. ⌜ r ≡ version major minor patch 0 ⌝ }
-{
-    FirmwareVersion {
-        major,
-        minor,
-        patch,
-        build: 0,
-    }
-}
-
-// Below 0.4 there is no extra pointer.
-pub fn below_0_4(v: FirmwareVersion) -> bool
-    ensures { λ r. ⌜ r ≡ below04 v ⌝ }
-{
-    is_before(v, release(0, 4, 0))
-}
-
-// Metadata is looked for from 0.5.0.
-pub fn from_0_5_0(v: FirmwareVersion) -> bool
-    ensures { λ r. ⌜ r ≡ from050 v ⌝ }
-{
-    !is_before(v, release(0, 5, 0))
-}
-
-// ROM infos have filenames from 0.5.1.
-pub fn from_0_5_1(v: FirmwareVersion) -> bool
-    ensures { λ r. ⌜ r ≡ from051 v ⌝ }
-{
-    !is_before(v, release(0, 5, 1))
-}
-
-// From 0.6.0 the PIO default flag is given, and the stride is longer.
-pub fn from_0_6_0(v: FirmwareVersion) -> bool
-    ensures { λ r. ⌜ r ≡ from060 v ⌝ }
-{
-    !is_before(v, release(0, 6, 0))
-}
-
-// Firmware from 0.7.0 is refused.
-pub fn from_0_7_0(v: FirmwareVersion) -> bool
-    ensures { λ r. ⌜ r ≡ from070 v ⌝ }
-{
-    !is_before(v, release(0, 7, 0))
-}
-
 // ROM infos have filenames from 0.5.1, or where boot logging is on.
 pub fn filenames_enabled(fields: SdrrInfoFields) -> bool
     ensures { λ r. ⌜ r ≡ hasFilenames fields ⌝ }
 {
-    le::either(from_0_5_1(fields.version), fields.boot_logging_enabled)
+    le::either(
+        version::from_0_5_1(fields.version),
+        fields.boot_logging_enabled,
+    )
 }
 
 fn mcu_line(number: u16) -> McuLine
@@ -202,7 +135,7 @@ fn read_fields(s: &[u8]) -> SdrrInfoFields
 fn read_extra_ptr(s: &[u8]) -> u32
     ensures { λ r. ⌜ r ≡ extraPointer (now (s .entry)) ⌝ }
 {
-    if below_0_4(read_version(s)) {
+    if version::below_0_4(read_version(s)) {
         return 4294967295;
     }
     le::u32_at(s, 56)
@@ -227,7 +160,12 @@ fn no_fields() -> SdrrInfoFields
     ensures { λ r. ⌜ r ≡ noHeader .fields ⌝ }
 {
     SdrrInfoFields {
-        version: release(0, 0, 0),
+        version: FirmwareVersion {
+            major: 0,
+            minor: 0,
+            patch: 0,
+            build: 0,
+        },
         commit: [0; 8],
         stm_line: McuLine::F401DE,
         stm_storage: McuStorage::Storage8,
@@ -275,7 +213,7 @@ pub fn parse_and_validate_header(data: &[u8]) -> HeaderAnswer
     if 7 < le::u16_at(data, 30) {
         return refuse(12);
     }
-    if from_0_7_0(read_version(data)) {
+    if version::from_0_7_0(read_version(data)) {
         return refuse(13);
     }
     let header = read_whole(data);

@@ -9,46 +9,12 @@ use Rattle.types.specs.declared.McuLine.{McuLine}
 use Rattle.types.specs.declared.SdrrCsSet.{SdrrCsSet}
 use Rattle.types.specs.Types.{romTypeOf}
 use Rattle.pins.specs.declared.PinsItem.{PinsItem}
-use Rattle.walk.specs.Rows.{setWidth, romWidth}
+pub use Rattle.rows.specs.LentRows.{hasSetRow, hasRomRow, setWord, dataPointer, sizeOf, firstRom, romCount, serveOf, typeWord, badRomRow, setNumber}
 use Rattle.mangle.specs.declared.Mangled.{Mangled}
 use Rattle.mangle.specs.declared.Demangled.{Demangled}
 use Rattle.mangle.specs.Mangle.{mangleCore}
 use Rattle.mangle.specs.Demangle.{demangle}
 use Rattle.info.specs.declared.Valued.{Valued}
-
--- ---- rows, as lists of words
-
--- the whole row is among those lent
-abbrev pub hasSetRow : List ℕ → ℕ → Bool
-hasSetRow sets i = leb (setWidth * i + setWidth) (length sets)
-
-abbrev pub hasRomRow : List ℕ → ℕ → Bool
-hasRomRow roms row = leb (romWidth * row + romWidth) (length roms)
-
-abbrev pub setWord : List ℕ → ℕ → ℕ → ℕ
-setWord sets i word = getD sets (setWidth * i + word) 0
-
-abbrev pub dataPointer : List ℕ → ℕ → ℕ
-dataPointer sets i = setWord sets i 0
-
-abbrev pub sizeOf : List ℕ → ℕ → ℕ
-sizeOf sets i = setWord sets i 1
-
-abbrev pub firstRom : List ℕ → ℕ → ℕ
-firstRom sets i = setWord sets i 2
-
-abbrev pub romCount : List ℕ → ℕ → ℕ
-romCount sets i = setWord sets i 3
-
-abbrev pub serveOf : List ℕ → ℕ → ℕ
-serveOf sets i = setWord sets i 4
-
-abbrev pub typeWord : List ℕ → ℕ → ℕ
-typeWord roms row = getD roms (romWidth * row) 0
-
--- a needed ROM row isn't among those lent, or its type is above 33
-abbrev pub badRomRow : List ℕ → ℕ → Bool
-badRomRow roms row = not (hasRomRow roms row) || ltb 33 (typeWord roms row)
 
 -- ---- mangling and demangling on a board
 
@@ -72,10 +38,6 @@ demangleByte pins byte = pick (not (eqb (pins .number) 0)) (record { number = 70
 
 abbrev pub unvalued : ℕ → Valued
 unvalued n = record { number = n; value = 0 }
-
--- 80: no such set. 4: its row. 0: neither.
-abbrev pub setNumber : (served : ℕ) → List ℕ → ℕ → ℕ
-setNumber served sets i = pick (leb served i) 80 (pick (not (hasSetRow sets i)) 4 0)
 
 unfoldable pub sizeCall : (served : ℕ) → List ℕ → ℕ → Valued
 sizeCall served sets i = pick (eqb (setNumber served sets i) 0) (record { number = 0; value = sizeOf sets i }) (unvalued (setNumber served sets i))

@@ -1,6 +1,4 @@
 // The calls on an opened board (info.rs): mangling by set 0, demangling. They go by the report and rows as lent.
-mod rows;
-
 use mangle::Demangled;
 use mangle::Mangled;
 use pins::PinsItem;

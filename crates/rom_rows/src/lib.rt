@@ -180,7 +180,7 @@ pub fn read_rom_sets(
         return refuse(45);
     }
     let filenames = header::filenames_enabled(fields);
-    let long = header::from_0_6_0(fields.version);
+    let long = version::from_0_6_0(fields.version);
     write_rom_sets(image, base, filenames, long, count, ptr, set_rows, rom_rows);
     judged
 }

@@ -25,8 +25,8 @@ fn run_runtime(record: &[u8], ram_base: u32) {
     }
 }
 
-fn run_version(line: &[u8]) -> header::FirmwareVersion {
-    header::FirmwareVersion {
+fn run_version(line: &[u8]) -> version::FirmwareVersion {
+    version::FirmwareVersion {
         major: lines::half(line, 2),
         minor: lines::half(line, 3),
         patch: lines::half(line, 4),

@@ -2,7 +2,6 @@
 use extra_info::ExtraInfoItem;
 use extra_info::FirePioDefault;
 use extra_info::SdrrExtraInfo;
-use header::FirmwareVersion;
 use header::HeaderAnswer;
 use header::SdrrInfoFields;
 use libc::STDOUT_FILENO;
@@ -13,6 +12,7 @@ use text::Text;
 use types::McuLine;
 use types::McuStorage;
 use types::SdrrMcuPort;
+use version::FirmwareVersion;
 
 // The line's first number.
 pub(crate) fn first(n: u32) {

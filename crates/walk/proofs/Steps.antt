@@ -14,7 +14,7 @@ use Rattle.prog.specs.Prog.{canRead, run}
 use Rattle.prog.specs.Read.{onward}
 use Rattle.walk.specs.Walk.{infoSize, walkP}
 use Rattle.header.specs.declared.SdrrInfoFields.{SdrrInfoFields}
-use Rattle.header.specs.Version.{from060}
+use Rattle.version.specs.Version.{from060}
 use Rattle.header.specs.Header.{hasFilenames}
 use Rattle.walk.specs.declared.Walked.{Walked}
 use Rattle.walk.specs.PassLaws.{romsIn, total-none}

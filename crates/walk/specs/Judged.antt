@@ -9,7 +9,7 @@ use borrow.Author.Tests.{ne-eqb}
 use Rattle.le.specs.Choice.{pick}
 use Rattle.prog.specs.Prog.{run}
 use Rattle.header.specs.declared.SdrrInfoFields.{SdrrInfoFields}
-use Rattle.header.specs.Version.{from060}
+use Rattle.version.specs.Version.{from060}
 use Rattle.header.specs.Header.{hasFilenames}
 use Rattle.walk.specs.declared.Walked.{Walked}
 use Rattle.walk.specs.Walk.{RomSet, Part, stop, found, romsOf, walkP}

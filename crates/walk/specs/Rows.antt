@@ -7,13 +7,7 @@ use lib.ListN.{length, getD, drop}
 use Rattle.text.specs.declared.Text.{Text}
 use Rattle.text.specs.Text.{refused}
 use Rattle.walk.specs.Walk.{Rom, RomSet, romsOf}
-
--- the words of a set row, and of a ROM row
-abbrev pub setWidth : ℕ
-setWidth = 8
-
-abbrev pub romWidth : ℕ
-romWidth = 7
+pub use Rattle.rows.specs.LentRows.{setWidth, romWidth}
 
 -- data pointer, size, first ROM row, ROM count, serve, state, config address, overrides address (0 absent)
 unfoldable pub setRow : ℕ → RomSet → List ℕ

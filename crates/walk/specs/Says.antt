@@ -15,7 +15,7 @@ use Rattle.prog.specs.Prog.{Prog, done, fetch, _>>=_, run, canRead}
 use Rattle.prog.specs.Run.{run-done, run-bind, run-failed, run-got}
 use Rattle.text.specs.Nul.{by-test}
 use Rattle.header.specs.declared.SdrrInfoFields.{SdrrInfoFields}
-use Rattle.header.specs.Version.{from060}
+use Rattle.version.specs.Version.{from060}
 use Rattle.header.specs.Header.{hasFilenames}
 use Rattle.walk.specs.Walk.{Rom, RomSet, Part, stop, found, orStop, refuse, romOf, infoSize, judgeRom, romP, romsP, tableP, pointedP, extraByte, setP, stride, romsOf, setsP, walkP}
 use Rattle.walk.specs.Passes.{orNext, onFrom, infoNumber, infoPointer, romNumber, romAt, romsNumber, romsAt, tableNumber, pointed, pointedNumber, configOf, overridesOf, headerNumber, setOf, partNumber, partRoms, setNumber, setAt, strideOf, after, setsNumber, setsAt, walkNumber}

@@ -7,7 +7,7 @@ use Rattle.le.specs.Choice.{pick}
 use Rattle.le.specs.Le.{u8At, u32At}
 use Rattle.prog.specs.Prog.{Prog, done, fetch, _>>=_}
 use Rattle.header.specs.declared.SdrrInfoFields.{SdrrInfoFields}
-use Rattle.header.specs.Version.{from060}
+use Rattle.version.specs.Version.{from060}
 use Rattle.header.specs.Header.{hasFilenames}
 
 -- ---- what the walk finds

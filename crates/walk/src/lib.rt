@@ -243,6 +243,6 @@ pub fn judge_rom_sets(
         };
     }
     let filenames = header::filenames_enabled(fields);
-    let long = header::from_0_6_0(fields.version);
+    let long = version::from_0_6_0(fields.version);
     judge_sets(image, base, filenames, long, ptr, count)
 }

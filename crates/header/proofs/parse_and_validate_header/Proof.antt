@@ -7,7 +7,7 @@ use borrow.Author.Needs.{needs}
 use Rattle.header.specs.declared.SdrrInfoHeader.{SdrrInfoHeader}
 use Rattle.header.specs.declared.HeaderAnswer.{HeaderAnswer}
 use Rattle.le.specs.Le.{u16At, startsWith}
-use Rattle.header.specs.Version.{from070}
+use Rattle.version.specs.Version.{from070}
 use Rattle.header.specs.Header.{magic, versionOf}
 use Rattle.header.specs.Laws.{header-short, header-no-magic, header-line, header-storage, header-version, header-accepted}
 use Rattle.header.proofs.parse_and_validate_header.Statement.{statement}

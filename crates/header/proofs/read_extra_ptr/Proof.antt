@@ -1,6 +1,6 @@
 use mathlib.Core.Path.{_∙_, sym, ap}
 use borrow.Author.Needs.{needs}
-use Rattle.header.specs.Version.{below04}
+use Rattle.version.specs.Version.{below04}
 use Rattle.header.specs.Laws.{extra-none, extra-kept}
 use Rattle.header.proofs.read_extra_ptr.Statement.{statement}
 use Rattle.header.proofs.read_extra_ptr.Tie as tie

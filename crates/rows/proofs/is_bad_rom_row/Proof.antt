@@ -1,0 +1,19 @@
+use borrow.Author.Needs.{needs}
+use Rattle.rows.proofs.is_bad_rom_row.Statement.{statement}
+use Rattle.rows.proofs.is_bad_rom_row.Tie as tie
+
+has-rom-row-requires : tie.Need-has-rom-row-requires
+has-rom-row-requires c κs = search needs
+
+type-word-requires : tie.Need-type-word-requires
+type-word-requires c κs = search needs
+
+either-requires : tie.Need-either-requires
+either-requires c κs = search needs
+
+returns : tie.Need-returns
+returns c = cc
+
+pub is-bad-rom-row-spec : {M : Type 1} → statement M
+is-bad-rom-row-spec =
+    tie.close (tie.spec has-rom-row-requires type-word-requires either-requires returns)

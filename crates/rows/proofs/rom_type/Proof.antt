@@ -1,0 +1,15 @@
+use borrow.Author.Needs.{needs}
+use Rattle.rows.proofs.rom_type.Statement.{statement}
+use Rattle.rows.proofs.rom_type.Tie as tie
+
+type-word-requires : tie.Need-type-word-requires
+type-word-requires c κs = search needs
+
+rom-type-of-requires : tie.Need-rom-type-of-requires
+rom-type-of-requires c κs = search needs
+
+returns : tie.Need-returns
+returns c = cc
+
+pub rom-type-spec : {M : Type 1} → statement M
+rom-type-spec = tie.close (tie.spec type-word-requires rom-type-of-requires returns)

@@ -28,7 +28,7 @@ pub struct ExtraInfoItem {
     pub extra_info: SdrrExtraInfo,
 }
 
-fn refuse(number: u8) -> ExtraInfoItem
+pub fn refuse(number: u8) -> ExtraInfoItem
     ensures { λ r. ⌜ r ≡ refused number ⌝ }
 {
     ExtraInfoItem {

@@ -1,4 +1,6 @@
 pub mod Opening
+pub mod Reply
+pub mod Parts
 pub mod Shown
 pub mod Cuts
 pub mod CutOpening
@@ -6,5 +8,8 @@ pub mod FirstRead
 pub mod CutReads
 pub mod Demand3
 pub mod Items
+pub mod OpenSteps
 pub mod Sanity
+pub mod Fits
+pub mod Promises
 pub mod Boards

@@ -1,56 +1,30 @@
 -- Document 01, "Report": the opening of an image.
 use Prim.Native.Nat.{ℕ, _+_}
-use mathlib.Core.Bool.{Bool, _&&_, _||_}
-use mathlib.Core.List.{List, [], _∷_}
+use mathlib.Core.Bool.{Bool, _||_}
+use mathlib.Core.List.{List, []}
 use lib.Dec.{ltb, eqb}
 use lib.ListN.{length}
 use Rattle.le.specs.Choice.{pick}
 use Rattle.prog.specs.Prog.{Prog, done, _>>=_, also, mapP, run}
 use Rattle.text.specs.declared.Text.{Text}
 use Rattle.text.specs.Text.{textP}
-use Rattle.header.specs.declared.SdrrInfoFields.{SdrrInfoFields}
 use Rattle.header.specs.declared.SdrrInfoHeader.{SdrrInfoHeader}
 use Rattle.header.specs.declared.HeaderAnswer.{HeaderAnswer}
-use Rattle.version.specs.Version.{from050}
 use Rattle.header.specs.Header.{headerP, baseAfter}
 use Rattle.extra_info.specs.declared.ExtraInfoItem.{ExtraInfoItem}
 use Rattle.extra_info.specs.ExtraInfo.{extraInfoP}
-use Rattle.metadata.specs.declared.MetadataAnswer.{MetadataAnswer}
-use Rattle.metadata.specs.declared.MetadataItem.{MetadataItem}
-use Rattle.metadata.specs.Metadata.{metadataP}
 use Rattle.pins.specs.declared.PinsItem.{PinsItem}
 use Rattle.pins.specs.Pins.{pinsP}
 use Rattle.walk.specs.Walk.{RomSet, Part, stop, found, walkP, romsOf}
 use Rattle.walk.specs.Names.{walkNamesP}
 use Rattle.walk.specs.Rows.{setRows, romRows, shortSets, shortRoms, overwritten}
+pub use Rattle.window.specs.Looked.{Looked, notLookedFor, looked, setCount, setsPointer, metadataEnded, metadataItem}
+unfoldable pub use Rattle.window.specs.Looked.{lookP}
 use Rattle.fw_parser.specs.declared.Settings.{Settings}
 use Rattle.fw_parser.specs.declared.SetsItem.{SetsItem}
 use Rattle.fw_parser.specs.declared.SdrrInfo.{SdrrInfo}
 
--- ---- metadata and sets
-
--- metadata: not looked for, or looked for with its answer
-pub data Looked : Type 0 where
-  notLookedFor : Looked
-  looked : MetadataAnswer → Looked
-
--- "Metadata": looked for only from 0.5.0, at the header's sets pointer
-unfoldable pub lookP : ℕ → SdrrInfoHeader → Prog Looked
-lookP base h = pick (from050 (h .fields .version)) (mapP looked (metadataP base (h .«rom_sets_ptr»))) (done notLookedFor)
-
--- the set count and the sets pointer that the walk goes by. From 0.5.0 the header's are dropped; metadata's take their place where it is
--- accepted, and its refusals leave the count 0
-abbrev pub setCount : SdrrInfoHeader → Looked → ℕ
-setCount h notLookedFor = h .«rom_set_count»
-setCount h (looked m) = m .«rom_set_count»
-
-abbrev pub setsPointer : SdrrInfoHeader → Looked → ℕ
-setsPointer h notLookedFor = h .«rom_sets_ptr»
-setsPointer h (looked m) = m .«rom_sets_ptr»
-
-abbrev pub metadataEnded : Looked → Bool
-metadataEnded notLookedFor = Bool.false
-metadataEnded (looked m) = eqb (m .number) 2
+-- ---- sets
 
 -- what the sets item is made of: the set count that the walk was given, and the walk
 pub record Sets : Type 0 where
@@ -103,10 +77,6 @@ rowP base h =
     pinsP base (h .«pins_ptr»)
 
 -- ---- the report
-
-abbrev pub metadataItem : Looked → MetadataItem
-metadataItem notLookedFor = MetadataItem.NotLookedFor
-metadataItem (looked m) = MetadataItem.Looked (m .number)
 
 -- A refused walk keeps the set count and serves no set. The sets served are the set count where the sets item is accepted, otherwise none.
 abbrev pub setsItem : ℕ → Part (List RomSet) → SetsItem

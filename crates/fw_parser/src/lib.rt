@@ -4,6 +4,17 @@ use header::SdrrInfoFields;
 use metadata::MetadataItem;
 use pins::PinsItem;
 use text::Text;
+use window::Records;
+use window::SetsSource;
+ghost use mathlib.Core.Path.{_≡_};
+ghost use lib.ListN.{length};
+ghost use Rattle.prog.specs.Prog.{run};
+ghost use Rattle.text.specs.Text.{refused};
+ghost use Rattle.walk.specs.Names.{walkNamesP};
+ghost use Rattle.rom_rows.specs.Reply as rows;
+ghost use Rattle.fw_parser.specs.Opening.{beyondWindow, opening, setRowsLeft, romRowsLeft};
+ghost use Rattle.fw_parser.specs.Reply.{noReport, replyOf};
+ghost use Rattle.fw_parser.specs.Parts.{walkOf, isShort, itemOf, reportWith};
 
 // Where the image stands: its base, the base for an Rp2350, and the header's offset.
 pub struct Settings {
@@ -28,4 +39,160 @@ pub struct SdrrInfo {
     pub metadata: MetadataItem,
     pub rom_sets: SetsItem,
     pub pins: PinsItem,
+}
+
+// 0 and the report, or the number of the refusal and the fixed report of `no_report`.
+pub struct Opening {
+    pub number: u8,
+    pub info: SdrrInfo,
+}
+
+// Either base plus the image's length exceeds 2^32. No sum of the two is made, so none can overflow.
+fn beyond_window(image: &[u8], settings: Settings) -> bool
+    ensures { λ r. ⌜ r ≡ beyondWindow settings (now (image .entry)) ⌝ }
+{
+    le::either(
+        4294967296 - (settings.flash_base as usize) < image.len(),
+        4294967296 - (settings.cs0_base as usize) < image.len(),
+    )
+}
+
+fn no_text() -> Text
+    ensures { λ r. ⌜ r ≡ refused 0 ⌝ }
+{
+    Text {
+        number: 0,
+        offset: 0,
+        length: 0,
+    }
+}
+
+// The report of a refused opening: zeros, the runtime pointer FFFFFFFF, metadata not looked for.
+fn no_report() -> SdrrInfo
+    ensures { λ r. ⌜ r ≡ noReport ⌝ }
+{
+    SdrrInfo {
+        fields: header::no_fields(),
+        build_date: no_text(),
+        hw_rev: no_text(),
+        extra_info: extra_info::refuse(0),
+        metadata: MetadataItem::NotLookedFor,
+        rom_sets: SetsItem {
+            number: 0,
+            rom_set_count: 0,
+            served: 0,
+        },
+        pins: pins::refuse(0),
+    }
+}
+
+// The sets served are the set count where the walk is accepted, otherwise none.
+fn sets_item(number: u8, count: u8) -> SetsItem
+    ensures { λ r. ⌜ r ≡ itemOf number count ⌝ }
+{
+    let mut served = 0;
+    if number == 0 {
+        served = count as u32;
+    }
+    SetsItem {
+        number,
+        rom_set_count: count,
+        served,
+    }
+}
+
+// The walk that metadata leaves: none where metadata ended.
+fn walk_sets(
+    image: &[u8],
+    base: u32,
+    fields: SdrrInfoFields,
+    source: SetsSource,
+    set_rows: &mut [u32],
+    rom_rows: &mut [u32],
+) -> u8
+    ensures reply { λ r. ⌜ r ≡ rows.replyOf (walkOf base fields source (now (image .entry))) (length (now («set_rows» .entry))) (length (now («rom_rows» .entry))) .number ⌝ }
+    ensures sets { λ r. ⌜ now («set_rows» .exit) ≡ rows.setRowsLeft (walkOf base fields source (now (image .entry))) (length (now («rom_rows» .entry))) (now («set_rows» .entry)) ⌝ }
+    ensures roms { λ r. ⌜ now («rom_rows» .exit) ≡ rows.romRowsLeft (walkOf base fields source (now (image .entry))) (run (walkNamesP base (walkOf base fields source (now (image .entry)))) (now (image .entry))) (length (now («set_rows» .entry))) (now («rom_rows» .entry)) ⌝ }
+{
+    if source.ended {
+        return 2;
+    }
+    let w = rom_rows::read_rom_sets(
+        image,
+        base,
+        fields,
+        source.rom_set_count,
+        source.rom_sets_ptr,
+        set_rows,
+        rom_rows,
+    );
+    w.number
+}
+
+// 44 and 45, the only numbers of a walk that refuse the opening.
+fn is_short(number: u8) -> bool
+    ensures { λ r. ⌜ r ≡ isShort number ⌝ }
+{
+    le::either(number == 44, number == 45)
+}
+
+// The report with that number of the walk.
+fn report(fields: SdrrInfoFields, records: Records, number: u8) -> SdrrInfo
+    ensures { λ r. ⌜ r ≡ reportWith fields records number ⌝ }
+{
+    let build_date = records.build_date;
+    let hw_rev = records.hw_rev;
+    let extra_info = records.extra_info;
+    let source = records.sets;
+    let metadata = source.metadata;
+    let rom_sets = sets_item(number, source.rom_set_count);
+    let pins = records.pins;
+    SdrrInfo {
+        fields,
+        build_date,
+        hw_rev,
+        extra_info,
+        metadata,
+        rom_sets,
+        pins,
+    }
+}
+
+// Refusals change no word of the rows, and the report is then the fixed one. Other refusals than these are items of the report.
+pub fn parse_flash(
+    image: &[u8],
+    settings: Settings,
+    set_rows: &mut [u32],
+    rom_rows: &mut [u32],
+) -> Opening
+    ensures reply { λ r. ⌜ r ≡ replyOf (opening settings (length (now («set_rows» .entry))) (length (now («rom_rows» .entry))) (now (image .entry))) ⌝ }
+    ensures sets { λ r. ⌜ now («set_rows» .exit) ≡ setRowsLeft (opening settings (length (now («set_rows» .entry))) (length (now («rom_rows» .entry))) (now (image .entry))) (now («set_rows» .entry)) ⌝ }
+    ensures roms { λ r. ⌜ now («rom_rows» .exit) ≡ romRowsLeft (opening settings (length (now («set_rows» .entry))) (length (now («rom_rows» .entry))) (now (image .entry))) (now («rom_rows» .entry)) ⌝ }
+{
+    let none = no_report();
+    if beyond_window(image, settings) {
+        return Opening {
+            number: 1,
+            info: none,
+        };
+    }
+    let a = header::retrieve_header(image, settings.flash_base, settings.info_offset);
+    if a.number != 0 {
+        return Opening {
+            number: a.number,
+            info: none,
+        };
+    }
+    let h = a.header;
+    let fields = h.fields;
+    let line = fields.stm_line;
+    let base = header::base_after(settings.flash_base, settings.cs0_base, line);
+    let records = window::read_records(image, base, h);
+    let source = records.sets;
+    let number = walk_sets(image, base, fields, source, set_rows, rom_rows);
+    let info = report(fields, records, number);
+    if is_short(number) {
+        return Opening { number, info: none };
+    }
+    Opening { number: 0, info }
 }

@@ -156,7 +156,7 @@ fn read_whole(s: &[u8]) -> SdrrInfoHeader
     }
 }
 
-fn no_fields() -> SdrrInfoFields
+pub fn no_fields() -> SdrrInfoFields
     ensures { λ r. ⌜ r ≡ noHeader .fields ⌝ }
 {
     SdrrInfoFields {

@@ -1,1 +1,3 @@
 pub mod Board
+pub mod Opening
+pub mod Reads

@@ -1,4 +1,7 @@
 // The entry points for C and Rust: include/onerom.h declares them.
+pub mod opening;
+pub mod reads;
+
 ghost use mathlib.Core.Path.{_≡_};
 ghost use Rattle.runtime_info.specs.Runtime.{runtimeOf};
 ghost use Rattle.text.specs.Text.{stringCall, partAfter};
@@ -60,7 +63,7 @@ fn level_of(n: u8) -> Level
     Level::Low
 }
 
-fn levels_from(levels: [u8; 5]) -> SdrrCsSet
+pub(crate) fn levels_from(levels: [u8; 5]) -> SdrrCsSet
     ensures { λ r. ⌜ r ≡ levelsFrom levels ⌝ }
 {
     SdrrCsSet {

@@ -95,7 +95,7 @@ fn no_pins() -> SdrrPins
     }
 }
 
-fn refuse(number: u8) -> PinsItem
+pub fn refuse(number: u8) -> PinsItem
     ensures { λ r. ⌜ r ≡ refused number ⌝ }
 {
     let pins = no_pins();

@@ -8,3 +8,4 @@ pub mod Passes
 pub mod PassLaws
 pub mod Says
 pub mod Judged
+pub mod Numbers

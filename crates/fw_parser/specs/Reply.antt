@@ -1,0 +1,31 @@
+-- What the opening replies: its number and report. A refused opening has fixed values beside its number.
+use Prim.Native.Nat.{ℕ}
+use Rattle.text.specs.Text.{refused}
+use Rattle.header.specs.Header.{noHeader}
+use Rattle.metadata.specs.declared.MetadataItem.{MetadataItem}
+use Rattle.extra_info.specs.ExtraInfo as extra
+use Rattle.pins.specs.Pins as pins
+use Rattle.fw_parser.specs.declared.SdrrInfo.{SdrrInfo}
+use Rattle.fw_parser.specs.declared.Opening.{Opening}
+use Rattle.fw_parser.specs.Opening.{Opened, opened}
+use Rattle.fw_parser.specs.Opening as o
+
+-- zeros, the runtime pointer FFFFFFFF
+unfoldable pub noReport : SdrrInfo
+noReport =
+    record {
+      fields = noHeader .fields;
+      «build_date» = refused 0;
+      «hw_rev» = refused 0;
+      «extra_info» = extra.refused 0;
+      metadata = MetadataItem.NotLookedFor;
+      «rom_sets» = record { number = 0; «rom_set_count» = 0; served = 0 };
+      pins = pins.refused 0;
+    }
+
+abbrev pub refusedWith : ℕ → Opening
+refusedWith n = record { number = n; info = noReport }
+
+unfoldable pub replyOf : Opened → Opening
+replyOf (o.refused n) = refusedWith n
+replyOf (opened r ss names) = record { number = 0; info = r }

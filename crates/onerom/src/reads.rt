@@ -1,0 +1,143 @@
+// ROM data, the byte reads, size and same set, for C and Rust.
+use c_report::OneromReport;
+use info::SdrrAddress;
+ghost use mathlib.Core.Path.{_≡_};
+ghost use mathlib.Core.Bool.{true, false};
+ghost use lib.ListN.{length};
+ghost use Rattle.info.specs.Lent.{sizeCall};
+ghost use Rattle.info.specs.Same.{sameSet};
+ghost use Rattle.info.specs.Reads.{bufferLeft};
+ghost use Rattle.onerom.specs.Board.{valueAfter};
+ghost use Rattle.onerom.specs.Reads.{addressFrom, dataCall, byteCall};
+
+#[no_mangle]
+pub extern "C" fn onerom_get_rom_set_size(
+    served: u32,
+    set_rows: &[u32],
+    set: u32,
+    value: &mut u32,
+) -> u32
+    ensures reply { λ r. ⌜ r ≡ sizeCall served (now («set_rows» .entry)) set .number ⌝ }
+    ensures value { λ r. ⌜ now (value .exit) ≡ valueAfter r (sizeCall served (now («set_rows» .entry)) set .value) (now (value .entry)) ⌝ }
+{
+    let s = rom_reads::get_rom_set_size(served, set_rows, set);
+    if s.number != 0 {
+        return s.number as u32;
+    }
+    *value = s.value;
+    0
+}
+
+#[no_mangle]
+pub extern "C" fn onerom_same_set(
+    served: u32,
+    set_rows: &[u32],
+    rom_rows: &[u32],
+    a: u32,
+    b: u32,
+    value: &mut u32,
+) -> u32
+    ensures reply { λ r. ⌜ r ≡ sameSet served (now («set_rows» .entry)) (now («rom_rows» .entry)) a b .number ⌝ }
+    ensures value { λ r. ⌜ now (value .exit) ≡ valueAfter r (sameSet served (now («set_rows» .entry)) (now («rom_rows» .entry)) a b .value) (now (value .entry)) ⌝ }
+{
+    let s = same_set::same_set(served, set_rows, rom_rows, a, b);
+    if s.number != 0 {
+        return s.number as u32;
+    }
+    *value = s.value;
+    0
+}
+
+#[no_mangle]
+pub extern "C" fn onerom_read_rom_set_data(
+    image: &[u8],
+    flash_base: u32,
+    cs0_base: u32,
+    report: OneromReport,
+    set_rows: &[u32],
+    set: u32,
+    offset: u32,
+    buffer: &mut [u8],
+    count: &mut u32,
+) -> u32
+    ensures reply { λ r. ⌜ r ≡ dataCall «flash_base» «cs0_base» report (now («set_rows» .entry)) set offset (length (now (buffer .entry))) (now (count .entry)) (now (image .entry)) .number ⌝ }
+    ensures buffer { λ r. ⌜ now (buffer .exit) ≡ bufferLeft (dataCall «flash_base» «cs0_base» report (now («set_rows» .entry)) set offset (length (now (buffer .entry))) (now (count .entry)) (now (image .entry))) (now (buffer .entry)) ⌝ }
+    ensures count { λ r. ⌜ now (count .exit) ≡ dataCall «flash_base» «cs0_base» report (now («set_rows» .entry)) set offset (length (now (buffer .entry))) (now (count .entry)) (now (image .entry)) .count ⌝ }
+{
+    let board = c_report::board_in(flash_base, cs0_base, report);
+    let before = *count;
+    let r = rom_reads::read_rom_set_data(image, board, set_rows, set, offset, buffer, before);
+    *count = r.count;
+    r.number as u32
+}
+
+// 1 is a logical address with its levels, every other a raw offset.
+fn address_from(logical: u8, address: u32, levels: [u8; 5]) -> SdrrAddress
+    ensures { λ r. ⌜ r ≡ addressFrom logical address levels ⌝ }
+{
+    if logical == 1 {
+        let set = crate::levels_from(levels);
+        return SdrrAddress::Logical(address, set);
+    }
+    SdrrAddress::Raw(address)
+}
+
+#[no_mangle]
+pub extern "C" fn onerom_read_rom_byte_raw(
+    image: &[u8],
+    flash_base: u32,
+    cs0_base: u32,
+    report: OneromReport,
+    set_rows: &[u32],
+    rom_rows: &[u32],
+    set: u32,
+    logical: u8,
+    address: u32,
+    levels: &[u8; 5],
+    count: &mut u32,
+    value: &mut u8,
+) -> u32
+    ensures reply { λ r. ⌜ r ≡ byteCall false «flash_base» «cs0_base» report (now («set_rows» .entry)) (now («rom_rows» .entry)) set logical address (now (levels .entry)) (now (count .entry)) (now (image .entry)) .number ⌝ }
+    ensures count { λ r. ⌜ now (count .exit) ≡ byteCall false «flash_base» «cs0_base» report (now («set_rows» .entry)) (now («rom_rows» .entry)) set logical address (now (levels .entry)) (now (count .entry)) (now (image .entry)) .count ⌝ }
+    ensures value { λ r. ⌜ now (value .exit) ≡ valueAfter r (byteCall false «flash_base» «cs0_base» report (now («set_rows» .entry)) (now («rom_rows» .entry)) set logical address (now (levels .entry)) (now (count .entry)) (now (image .entry)) .byte) (now (value .entry)) ⌝ }
+{
+    let board = c_report::board_in(flash_base, cs0_base, report);
+    let at = address_from(logical, address, *levels);
+    let r = rom_reads::read_rom_byte_raw(image, board, set_rows, rom_rows, set, at, *count);
+    *count = r.count;
+    if r.number != 0 {
+        return r.number as u32;
+    }
+    *value = r.byte;
+    0
+}
+
+#[no_mangle]
+pub extern "C" fn onerom_read_rom_byte_demangled(
+    image: &[u8],
+    flash_base: u32,
+    cs0_base: u32,
+    report: OneromReport,
+    set_rows: &[u32],
+    rom_rows: &[u32],
+    set: u32,
+    logical: u8,
+    address: u32,
+    levels: &[u8; 5],
+    count: &mut u32,
+    value: &mut u8,
+) -> u32
+    ensures reply { λ r. ⌜ r ≡ byteCall true «flash_base» «cs0_base» report (now («set_rows» .entry)) (now («rom_rows» .entry)) set logical address (now (levels .entry)) (now (count .entry)) (now (image .entry)) .number ⌝ }
+    ensures count { λ r. ⌜ now (count .exit) ≡ byteCall true «flash_base» «cs0_base» report (now («set_rows» .entry)) (now («rom_rows» .entry)) set logical address (now (levels .entry)) (now (count .entry)) (now (image .entry)) .count ⌝ }
+    ensures value { λ r. ⌜ now (value .exit) ≡ valueAfter r (byteCall true «flash_base» «cs0_base» report (now («set_rows» .entry)) (now («rom_rows» .entry)) set logical address (now (levels .entry)) (now (count .entry)) (now (image .entry)) .byte) (now (value .entry)) ⌝ }
+{
+    let board = c_report::board_in(flash_base, cs0_base, report);
+    let at = address_from(logical, address, *levels);
+    let r = rom_reads::read_rom_byte_demangled(image, board, set_rows, rom_rows, set, at, *count);
+    *count = r.count;
+    if r.number != 0 {
+        return r.number as u32;
+    }
+    *value = r.byte;
+    0
+}

@@ -1,0 +1,55 @@
+-- ROM data and the byte reads as the code goes about them: where a set's bytes stand in the image, then the count, then demangling.
+use Prim.Native.Nat.{ℕ, _+_, _-_}
+use mathlib.Core.Bool.{Bool, not, _||_}
+use mathlib.Core.List.{List}
+use lib.Dec.{ltb, eqb}
+use lib.ListN.{getD}
+use Rattle.le.specs.Choice.{pick}
+use Rattle.prog.specs.Prog.{canRead}
+use Rattle.pins.specs.declared.PinsItem.{PinsItem}
+use Rattle.mangle.specs.declared.Mangled.{Mangled}
+use Rattle.info.specs.declared.SdrrAddress.{SdrrAddress}
+use Rattle.info.specs.Lent.{setNumber, dataPointer, sizeOf, mangleAddress, demangleByte}
+use Rattle.rom_reads.specs.declared.SetData.{SetData}
+use Rattle.rom_reads.specs.declared.Found.{Found}
+use Rattle.rom_reads.specs.declared.ByteRead.{ByteRead}
+
+-- 1: either base plus image length exceeds 2^32
+abbrev pub beyond : (flashBase cs0Base n : ℕ) → Bool
+beyond flashBase cs0Base n = ltb 4294967296 (flashBase + n) || ltb 4294967296 (cs0Base + n)
+
+abbrev pub setData : (served : ℕ) → List ℕ → ℕ → SetData
+setData served sets set = record { number = setNumber served sets set; pointer = dataPointer sets set; size = sizeOf sets set }
+
+abbrev pub notFound : ℕ → Found
+notFound n = record { number = n; at = 0 }
+
+-- 80 and 4, then 81, then 2
+unfoldable pub foundOf : List ℕ → ℕ → SetData → ℕ → ℕ → Found
+foundOf x base d offset n =
+    pick (not (eqb (d .number) 0)) (notFound (d .number))
+    (pick (ltb (d .size) (offset + n)) (notFound 81)
+    (pick (canRead x base (d .pointer + offset) n) (record { number = 0; at = d .pointer + offset - base }) (notFound 2)))
+
+abbrev pub noByte : ℕ → ℕ → ByteRead
+noByte n count = record { number = n; byte = 0; count = count }
+
+-- mangling's number, then those of ROM data, then 82
+unfoldable pub storedByte : List ℕ → ℕ → SetData → Mangled → ℕ → ByteRead
+storedByte x base d m count =
+    pick (not (eqb (m .number) 0)) (noByte (m .number) count)
+    (pick (not (eqb (foundOf x base d (m .value) 1 .number) 0)) (noByte (foundOf x base d (m .value) 1 .number) count)
+    (pick (ltb 4294967295 (count + 1)) (noByte 82 count)
+    (record { number = 0; byte = getD x (foundOf x base d (m .value) 1 .at) 0; count = count + 1 })))
+
+-- a raw address skips mangling
+abbrev pub physicalBy : PinsItem → (served : ℕ) → (sets roms : List ℕ) → SdrrAddress → Mangled
+physicalBy pins served sets roms (SdrrAddress.Raw offset) = record { number = 0; value = offset }
+physicalBy pins served sets roms (SdrrAddress.Logical address levels) = mangleAddress pins served sets roms address levels
+
+-- 70 and 79, which count nothing
+unfoldable pub shownFrom : PinsItem → ByteRead → ℕ → ByteRead
+shownFrom pins raw count =
+    pick (not (eqb (raw .number) 0)) raw
+    (pick (not (eqb (demangleByte pins (raw .byte) .number) 0)) (noByte (demangleByte pins (raw .byte) .number) count)
+    (record { number = 0; byte = demangleByte pins (raw .byte) .value; count = raw .count }))

@@ -1,0 +1,96 @@
+use Prim.Native.Nat.{_+_, _*_, _≤_, _<_}
+use native.Mathlib.Omega.{arith}
+use mathlib.Core.Path.{_≡_, sym, _∙_}
+use lib.ListN.{length, drop, length-drop}
+use borrow.Author.Tests.{not-true, not-false}
+use borrow.Author.Needs.{needs}
+use Rattle.rows.specs.LentRows.{firstRom, romCount}
+use Rattle.same_set.specs.Steps.{bad-row, bad-empty, bad-short, bad-types}
+use Rattle.same_set.proofs.is_bad_set.Statement.{statement}
+use Rattle.same_set.proofs.is_bad_set.Tie as tie
+
+has-set-row-requires : tie.Need-has-set-row-requires
+has-set-row-requires c κs = search needs
+
+returns : tie.Need-returns
+returns c =
+    let row = c .before in
+    let entry = row .before .before .before .args in
+    bad-row (entry .set-rows .now) (entry .rom-rows .now) (entry .set) (sym (row .has-set-row .ensures) ∙ not-true _ (c .if1 .taken))
+
+set-word-requires : tie.Need-set-word-requires
+set-word-requires c κs = search needs
+
+returns-2 : tie.Need-returns-2
+returns-2 c =
+    let has = c .before .before in
+    let row = has .before in
+    let entry = row .before .before .before .args in
+    bad-empty (entry .set-rows .now) (entry .rom-rows .now) (entry .set) (sym (row .has-set-row .ensures) ∙ not-false _ (has .if1 .left)) (sym (c .before .set-word .ensures) ∙ c .if2 .taken)
+
+set-word-requires-2 : tie.Need-set-word-requires-2
+set-word-requires-2 c κs = search needs
+
+cast-if3 : tie.Need-cast-if3
+cast-if3 c = search needs
+
+cast-if3-2 : tie.Need-cast-if3-2
+cast-if3-2 c = search needs
+
+add-if3 : tie.Need-add-if3
+add-if3 c = search needs
+
+mul-if3 : tie.Need-mul-if3
+mul-if3 c = search needs
+
+returns-3 : tie.Need-returns-3
+returns-3 c =
+    let some = c .before .before in
+    let has = some .before .before in
+    let row = has .before in
+    let entry = row .before .before .before .args in
+    let count = romCount (entry .set-rows .now) (entry .set) in
+    let first = firstRom (entry .set-rows .now) (entry .set) in
+    let none : count ≡ 0 → ⊥ = λ z. some .if2 .left (some .before .set-word .ensures ∙ z) in
+    let short : length (entry .rom-rows .now) < 7 * (first + count) = omega (arith, some .before .set-word .ensures, c .before .set-word2 .ensures) in
+    bad-short (entry .set-rows .now) (entry .rom-rows .now) (entry .set) (sym (row .has-set-row .ensures) ∙ not-false _ (has .if1 .left)) none short
+
+from-row-requires : tie.Need-from-row-requires
+from-row-requires c κs = search needs
+
+any-above-33-requires : tie.Need-any-above-33-requires
+any-above-33-requires c κs =
+    let some = c .before .before .before in
+    let has = some .before .before in
+    let entry = has .before .before .before .before .args in
+    rw (c .from-row .ensures, length-drop (7 * c .before .before .set-word2 .result) (entry .rom-rows .now)) (omega arith)
+
+returns-4 : tie.Need-returns-4
+returns-4 c =
+    let first = c .before .before .before in
+    let some = first .before in
+    let has = some .before .before in
+    let row = has .before in
+    let entry = row .before .before .before .args in
+    let none : romCount (entry .set-rows .now) (entry .set) ≡ 0 → ⊥ = λ z. some .if2 .left (some .before .set-word .ensures ∙ z) in
+    let there : 7 * (firstRom (entry .set-rows .now) (entry .set) + romCount (entry .set-rows .now) (entry .set)) ≤ length (entry .rom-rows .now) =
+    omega (arith, some .before .set-word .ensures, first .set-word2 .ensures) in
+    rw (← bad-types (entry .set-rows .now) (entry .rom-rows .now) (entry .set) (sym (row .has-set-row .ensures) ∙ not-false _ (has .if1 .left)) none there, ← some .before .set-word .ensures, ← first .set-word2 .ensures, ← c .before .from-row .ensures) (c .any-above-33 .ensures)
+
+pub is-bad-set-spec : {M : Type 1} → statement M
+is-bad-set-spec =
+    tie.close
+    (tie.spec
+    has-set-row-requires
+    returns
+    set-word-requires
+    returns-2
+    set-word-requires-2
+    cast-if3
+    cast-if3-2
+    add-if3
+    mul-if3
+    returns-3
+    from-row-requires
+    any-above-33-requires
+    returns-4)

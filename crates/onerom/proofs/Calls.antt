@@ -20,9 +20,14 @@ use Rattle.rom_reads.specs.declared.Board.{Board}
 use Rattle.rom_reads.specs.declared.Counted.{Counted}
 use Rattle.rom_reads.specs.declared.ByteRead.{ByteRead}
 use Rattle.rom_reads.specs.Calls.{lentBy, countedOf, byteOf}
+use Rattle.fw_parser.specs.declared.Opening.{Opening}
+use Rattle.fw_parser.specs.Opening.{Opened}
+use Rattle.fw_parser.specs.Reply.{replyOf}
 use Rattle.c_report.specs.declared.OneromReport.{OneromReport}
-use Rattle.c_report.specs.Report.{boardIn}
+use Rattle.c_report.specs.Report.{reportOut, boardIn}
 use Rattle.onerom.specs.Board.{levelsFrom, pinsFrom, pinsItem, mangleCall, demangleCall, valueAfter}
+use Rattle.onerom.specs.declared.opening.OneromOpening.{OneromOpening}
+use Rattle.onerom.specs.Opening.{handedOut, openingOut}
 use Rattle.onerom.specs.Reads.{addressFrom, dataCall, byteCall}
 
 -- a refusal changes nothing
@@ -40,6 +45,11 @@ pub demangled : (number stored : ℕ) (d : List ℕ) (p : SdrrPins) (i : PinsIte
     → p ≡ pinsFrom 0 d (eightZeros ++ eightZeros) (0 ∷ 0 ∷ 0 ∷ 0 ∷ 0 ∷ 0 ∷ 0 ∷ []) → i ≡ pinsItem number p → r ≡ demangleByte i stored → r ≡ demangleCall number d stored
 unfolding demangleCall
 demangled number stored d p i r e f h = h ∙ ap (λ (j : PinsItem). demangleByte j stored) (f ∙ ap (pinsItem number) e)
+
+-- ---- the opening
+
+pub opened-out : (o : Opening) (w : Opened) (r : OneromReport) → o ≡ replyOf w → r ≡ reportOut (o .info) → _≡_ {A = OneromOpening} (record { number = o .number; report = r }) (openingOut w)
+opened-out o w r e h = ap (λ (t : OneromReport). record { number = o .number; report = t }) h ∙ ap handedOut e
 
 -- ---- size and same set: the reply and the lent word
 

@@ -336,50 +336,50 @@ fn line_in(number: u8) -> McuLine
     McuLine::F401DE
 }
 
-fn pins_in(p: OneromPins) -> PinsItem
-    ensures { λ r. ⌜ r ≡ pinsIn p ⌝ }
+fn pins_in(held: OneromPins) -> PinsItem
+    ensures { λ r. ⌜ r ≡ pinsIn held ⌝ }
 {
-    let data = p.data;
-    let addr = p.addr;
-    let data2 = p.data2;
-    let addr2 = p.addr2;
+    let data = held.data;
+    let addr = held.addr;
+    let data2 = held.data2;
+    let addr2 = held.addr2;
     let pins = SdrrPins {
-        data_port: types::port_of(p.data_port),
-        addr_port: types::port_of(p.addr_port),
-        cs_port: types::port_of(p.cs_port),
-        sel_port: types::port_of(p.sel_port),
-        status_port: types::port_of(p.status_port),
-        rom_pins: p.rom_pins,
+        data_port: types::port_of(held.data_port),
+        addr_port: types::port_of(held.addr_port),
+        cs_port: types::port_of(held.cs_port),
+        sel_port: types::port_of(held.sel_port),
+        status_port: types::port_of(held.status_port),
+        rom_pins: held.rom_pins,
         data,
         addr,
-        cs1: p.cs1,
-        cs2: p.cs2,
-        cs3: p.cs3,
-        reserved2a: p.reserved2a,
-        reserved2b: p.reserved2b,
-        reserved2c: p.reserved2c,
-        x1: p.x1,
-        x2: p.x2,
-        ce: p.ce,
-        oe: p.oe,
-        x_jumper_pull: p.x_jumper_pull,
-        swclk_sel: p.swclk_sel,
-        swdio_sel: p.swdio_sel,
-        sel0: p.sel0,
-        sel1: p.sel1,
-        sel2: p.sel2,
-        sel3: p.sel3,
-        sel4: p.sel4,
-        sel5: p.sel5,
-        sel6: p.sel6,
-        sel_jumper_pull: p.sel_jumper_pull,
-        status: p.status,
-        extended: p.extended,
+        cs1: held.cs1,
+        cs2: held.cs2,
+        cs3: held.cs3,
+        reserved2a: held.reserved2a,
+        reserved2b: held.reserved2b,
+        reserved2c: held.reserved2c,
+        x1: held.x1,
+        x2: held.x2,
+        ce: held.ce,
+        oe: held.oe,
+        x_jumper_pull: held.x_jumper_pull,
+        swclk_sel: held.swclk_sel,
+        swdio_sel: held.swdio_sel,
+        sel0: held.sel0,
+        sel1: held.sel1,
+        sel2: held.sel2,
+        sel3: held.sel3,
+        sel4: held.sel4,
+        sel5: held.sel5,
+        sel6: held.sel6,
+        sel_jumper_pull: held.sel_jumper_pull,
+        status: held.status,
+        extended: held.extended,
         data2,
         addr2,
     };
     PinsItem {
-        number: p.number,
+        number: held.number,
         pins,
     }
 }

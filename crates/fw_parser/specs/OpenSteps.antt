@@ -3,7 +3,7 @@
 use Prim.Native.Nat.{ℕ, _+_, _-_, _≤_}
 use native.Mathlib.Omega.{arith}
 use mathlib.Core.Path.{_≡_, refl, sym, ap, subst, _∙_}
-use mathlib.Core.Bool.{Bool, true, false}
+use mathlib.Core.Bool.{Bool, true, false, _||_}
 use mathlib.Core.List.{List, []}
 use lib.Dec.{ltb}
 use lib.ListN.{length}
@@ -38,12 +38,16 @@ use Rattle.fw_parser.specs.Parts.{walkOf, isShort, itemOf, reportWith}
 
 -- ---- the window
 
--- the test without the sum
-pub past-window : (base n : ℕ) → base ≤ 4294967296 → ltb (4294967296 - base) n ≡ ltb 4294967296 (base + n)
+-- a test without the sum
+past-window : (base n : ℕ) → base ≤ 4294967296 → ltb (4294967296 - base) n ≡ ltb 4294967296 (base + n)
 past-window base n h =
     by-test (ltb (4294967296 - base) n)
     (λ e. e ∙ sym (lt-ltb 4294967296 (base + n) (let f = ltb-true (4294967296 - base) n e in omega arith)))
     (λ e. e ∙ sym (le-ltb 4294967296 (base + n) (let f = ltb-false (4294967296 - base) n e in omega arith)))
+
+pub past-either : (s : Settings) (x : List ℕ) → s .«flash_base» ≤ 4294967296 → s .«cs0_base» ≤ 4294967296
+    → (ltb (4294967296 - s .«flash_base») (length x) || ltb (4294967296 - s .«cs0_base») (length x)) ≡ beyondWindow s x
+past-either s x h i = rw (past-window (s .«flash_base») (length x) h, past-window (s .«cs0_base») (length x) i)
 
 -- ---- the walk that metadata leaves
 

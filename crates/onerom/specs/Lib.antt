@@ -1,3 +1,4 @@
 pub mod Board
 pub mod Opening
 pub mod Reads
+pub mod Promises

@@ -40,11 +40,11 @@ pub extern "C" fn onerom_same_set(
     ensures reply { λ r. ⌜ r ≡ sameSet served (now («set_rows» .entry)) (now («rom_rows» .entry)) a b .number ⌝ }
     ensures value { λ r. ⌜ now (value .exit) ≡ valueAfter r (sameSet served (now («set_rows» .entry)) (now («rom_rows» .entry)) a b .value) (now (value .entry)) ⌝ }
 {
-    let s = same_set::same_set(served, set_rows, rom_rows, a, b);
-    if s.number != 0 {
-        return s.number as u32;
+    let same = same_set::same_set(served, set_rows, rom_rows, a, b);
+    if same.number != 0 {
+        return same.number as u32;
     }
-    *value = s.value;
+    *value = same.value;
     0
 }
 
@@ -66,9 +66,9 @@ pub extern "C" fn onerom_read_rom_set_data(
 {
     let board = c_report::board_in(flash_base, cs0_base, report);
     let before = *count;
-    let r = rom_reads::read_rom_set_data(image, board, set_rows, set, offset, buffer, before);
-    *count = r.count;
-    r.number as u32
+    let stored = rom_reads::read_rom_set_data(image, board, set_rows, set, offset, buffer, before);
+    *count = stored.count;
+    stored.number as u32
 }
 
 // 1 is a logical address with its levels, every other a raw offset.
@@ -103,12 +103,12 @@ pub extern "C" fn onerom_read_rom_byte_raw(
 {
     let board = c_report::board_in(flash_base, cs0_base, report);
     let at = address_from(logical, address, *levels);
-    let r = rom_reads::read_rom_byte_raw(image, board, set_rows, rom_rows, set, at, *count);
-    *count = r.count;
-    if r.number != 0 {
-        return r.number as u32;
+    let raw = rom_reads::read_rom_byte_raw(image, board, set_rows, rom_rows, set, at, *count);
+    *count = raw.count;
+    if raw.number != 0 {
+        return raw.number as u32;
     }
-    *value = r.byte;
+    *value = raw.byte;
     0
 }
 
@@ -133,11 +133,19 @@ pub extern "C" fn onerom_read_rom_byte_demangled(
 {
     let board = c_report::board_in(flash_base, cs0_base, report);
     let at = address_from(logical, address, *levels);
-    let r = rom_reads::read_rom_byte_demangled(image, board, set_rows, rom_rows, set, at, *count);
-    *count = r.count;
-    if r.number != 0 {
-        return r.number as u32;
+    let shown = rom_reads::read_rom_byte_demangled(
+        image,
+        board,
+        set_rows,
+        rom_rows,
+        set,
+        at,
+        *count,
+    );
+    *count = shown.count;
+    if shown.number != 0 {
+        return shown.number as u32;
     }
-    *value = r.byte;
+    *value = shown.byte;
     0
 }

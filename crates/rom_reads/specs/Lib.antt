@@ -1,3 +1,4 @@
 pub mod Calls
 pub mod Found
 pub mod Steps
+pub mod Promises

@@ -11,7 +11,7 @@ use lib.ListN.{length, getD, take, drop}
 use borrow.Author.Tests.{ltb-true, ltb-false, lt-ltb, le-ltb, eqb-true, eqb-false, eq-eqb, ne-eqb}
 use Rattle.le.specs.Choice.{pick}
 use Rattle.prog.specs.Prog.{done, fetch, canRead, run}
-use Rattle.prog.specs.Read.{true-inside, part-at}
+use Rattle.prog.specs.Read.{Inside, true-inside, part-at}
 use Rattle.prog.specs.Run.{run-done, run-failed, run-got, run-map}
 use Rattle.header.specs.Header.{baseAfter}
 use Rattle.text.specs.Nul.{by-test}
@@ -19,7 +19,7 @@ use Rattle.pins.specs.declared.PinsItem.{PinsItem}
 use Rattle.mangle.specs.declared.Mangled.{Mangled}
 use Rattle.info.specs.declared.SdrrAddress.{SdrrAddress}
 use Rattle.info.specs.Lent.{Lent, setNumber, dataPointer, sizeOf, unvalued, sizeCall, demangleByte}
-use Rattle.info.specs.Reads.{Bytes, noBytes, dataP, countNumber, shownByte, RomRead, range, byte, lengthOf, physical, byteP, storedP, finished, readP, Reply, replyOf, romRead, bufferLeft}
+use Rattle.info.specs.Reads.{Bytes, noBytes, dataP, countNumber, shownByte, RomRead, range, byte, physical, byteP, storedP, finished, readP, Reply, replyOf, romRead, bufferLeft}
 use Rattle.rom_reads.specs.declared.SetData.{SetData}
 use Rattle.rom_reads.specs.declared.Found.{Found}
 use Rattle.rom_reads.specs.declared.ByteRead.{ByteRead}
@@ -66,12 +66,17 @@ module _ (x : List ℕ) (base : ℕ) (d : SetData) (offset n : ℕ) where
   unfolding foundOf
   found-there h i j = rw (eq-eqb (d .number) 0 h, le-ltb (d .size) (offset + n) i, j)
 
-  -- where they are found, they lie in the image
-  pub found-inside : (f : Found) → f ≡ foundOf x base d offset n → f .number ≡ 0 → f .at + n ≤ length x
+  -- where they are found, they lie in the set and in the image
+  pub record Stands (f : Found) : Type 0 where
+    pub in-set : offset + n ≤ d .size
+    pub readable : Inside x base (d .pointer + offset) n
+    pub starts : f .at ≡ d .pointer + offset - base
+
+  pub found-stands : (f : Found) → f ≡ foundOf x base d offset n → f .number ≡ 0 → Stands f
   unfolding foundOf
-  found-inside f v z = rw v (go (rw v at z))
+  found-stands f v z = rw v (go (rw v at z))
     where
-      go : foundOf x base d offset n .number ≡ 0 → foundOf x base d offset n .at + n ≤ length x
+      go : foundOf x base d offset n .number ≡ 0 → Stands (foundOf x base d offset n)
       go e =
           by-test (eqb (d .number) 0)
           (λ h.
@@ -79,9 +84,12 @@ module _ (x : List ℕ) (base : ℕ) (d : SetData) (offset n : ℕ) where
           (λ i. let y : _≡_ {A = ℕ} 81 0 = rw (h, i) at e in absurd (omega arith))
           (λ i.
           by-test (canRead x base (d .pointer + offset) n)
-          (λ j. let t = true-inside x base (d .pointer + offset) n j in rw (h, i, j) (omega arith))
+          (λ j. rw (h, i, j) (record { in-set = ltb-false (d .size) (offset + n) i; readable = true-inside x base (d .pointer + offset) n j; starts = refl }))
           (λ j. let y : _≡_ {A = ℕ} 2 0 = rw (h, i, j) at e in absurd (omega arith))))
           (λ h. absurd (eqb-false (d .number) 0 h (rw h at e)))
+
+  pub found-inside : (f : Found) → f ≡ foundOf x base d offset n → f .number ≡ 0 → f .at + n ≤ length x
+  found-inside f v z = let s = found-stands f v z in let i = s .readable in omega (arith, s .starts)
 
 -- ---- ROM data
 
@@ -169,6 +177,20 @@ module _ (x : List ℕ) (base : ℕ) (d : SetData) (m : Mangled) (count : ℕ) w
     unfolding storedByte
     stored-read h i = rw (eq-eqb (m .number) 0 mangled, ← e, eq-eqb (f .number) 0 h, le-ltb 4294967295 (count + 1) i)
 
+  -- an accepted byte is the image's
+  pub stored-at : storedByte x base d m count .number ≡ 0 → storedByte x base d m count .byte ≡ getD x (d .pointer + m .value - base) 0
+  unfolding storedByte
+  stored-at e =
+      let f = foundOf x base d (m .value) 1 in
+      by-test (eqb (m .number) 0)
+      (λ h.
+      by-test (eqb (f .number) 0)
+      (λ i.
+      by-test (ltb 4294967295 (count + 1)) (λ j. let y : _≡_ {A = ℕ} 82 0 = rw (h, i, j) at e in absurd (omega arith))
+      (λ j. rw (h, i, j) (ap (λ (k : ℕ). getD x k 0) (found-stands x base d (m .value) 1 f refl (eqb-true (f .number) 0 i) .starts))))
+      (λ i. absurd (eqb-false (f .number) 0 i (rw (h, i) at e))))
+      (λ h. absurd (eqb-false (m .number) 0 h (rw h at e)))
+
 -- a byte that was read from the image, or a number: then 82
 abbrev rawOf : ℕ → Bytes → ByteRead
 rawOf count b =
@@ -205,7 +227,7 @@ stored-run x base l set m count =
         (pick (ltb 4294967295 (count + 1)) (noByte 82 count) (record { number = 0; byte = getD x (f .at) 0; count = count + 1 }))
     go f = by-test (eqb (f .number) 0) (λ h. rw h (rw (part-at (f .at) 1 x 0 (omega arith), add-zero (f .at)))) (λ h. rw (h, h))
 
-by-address : (l : Lent) (a : SdrrAddress) → physicalBy (l .pins) (l .served) (l .setWords) (l .romWords) a ≡ physical l a
+pub by-address : (l : Lent) (a : SdrrAddress) → physicalBy (l .pins) (l .served) (l .setWords) (l .romWords) a ≡ physical l a
 by-address l (SdrrAddress.Raw offset) = refl
 by-address l (SdrrAddress.Logical address levels) = refl
 
@@ -245,3 +267,11 @@ module _ (pins : PinsItem) (raw : ByteRead) (count : ℕ) where
         → shownFrom pins raw count ≡ record { number = 0; byte = demangleByte pins (raw .byte) .value; count = raw .count }
     unfolding shownFrom
     shown-demangled h = rw (eq-eqb (raw .number) 0 read, eq-eqb (demangleByte pins (raw .byte) .number) 0 h)
+
+  pub shown-value : shownFrom pins raw count .number ≡ 0 → shownFrom pins raw count .byte ≡ demangleByte pins (raw .byte) .value
+  unfolding shownFrom
+  shown-value e =
+      let v = demangleByte pins (raw .byte) in
+      by-test (eqb (raw .number) 0)
+      (λ h. by-test (eqb (v .number) 0) (λ i. rw (h, i)) (λ i. absurd (eqb-false (v .number) 0 i (rw (h, i) at e))))
+      (λ h. absurd (eqb-false (raw .number) 0 h (rw h at e)))

@@ -118,10 +118,8 @@ fn find(image: &[u8], base: u32, data: SetData, offset: u32, n: usize) -> Found
     if !text::can_read(image, base, address, n) {
         return not_found(2);
     }
-    Found {
-        number: 0,
-        at: (address - base as u64) as usize,
-    }
+    let at = (address - base as u64) as usize;
+    Found { number: 0, at }
 }
 
 // The bytes, one for each of the buffer.
@@ -154,10 +152,9 @@ pub fn read_rom_set_data(
     }
     let n = buffer.len();
     let line = board.line;
-    let base = header::base_after(board.flash_base, board.cs0_base, line);
     let found = find(
         image,
-        base,
+        header::base_after(board.flash_base, board.cs0_base, line),
         set_data(board.served, set_rows, set),
         offset,
         n,
@@ -173,10 +170,8 @@ pub fn read_rom_set_data(
     }
     let at = found.at;
     copy(buffer, &image[at..at + n]);
-    Counted {
-        number: 0,
-        count: count + n as u32,
-    }
+    let count = count + n as u32;
+    Counted { number: 0, count }
 }
 
 fn no_byte(number: u8, count: u32) -> ByteRead
@@ -204,10 +199,12 @@ fn stored_byte(image: &[u8], base: u32, data: SetData, m: Mangled, count: u32) -
         return no_byte(82, count);
     }
     let at = found.at;
+    let byte = image[at];
+    let count = count + 1;
     ByteRead {
         number: 0,
-        byte: image[at],
-        count: count + 1,
+        byte,
+        count,
     }
 }
 

@@ -40,13 +40,13 @@ fn same_types(a: &[u32], b: &[u32], count: u32) -> bool
     requires { ⌜ (7 * count ≤ length (now a)) × (7 * count ≤ length (now b)) ⌝ }
     ensures { λ r. ⌜ r ≡ equal (typesIn (now (a .entry)) count) (typesIn (now (b .entry)) count) ⌝ }
 {
-    let mut at: usize = 0;
+    let mut i: usize = 0;
     let mut left = count;
     while left != 0 {
-        if a[at] != b[at] {
+        if a[i] != b[i] {
             return false;
         }
-        at += 7;
+        i += 7;
         left -= 1;
     }
     true

@@ -1,8 +1,6 @@
-use Prim.Native.Nat.{_≤_}
 use mathlib.Core.Path.{_∙_}
-use lib.ListN.{length}
 use borrow.Author.Needs.{needs}
-use Rattle.fw_parser.specs.OpenSteps.{past-window}
+use Rattle.fw_parser.specs.OpenSteps.{past-either}
 use Rattle.fw_parser.proofs.beyond_window.Statement.{statement}
 use Rattle.fw_parser.proofs.beyond_window.Tie as tie
 
@@ -24,9 +22,7 @@ either-requires c κs = search needs
 returns : tie.Need-returns
 returns c =
     let entry = c .before .before .before .before .args in
-    let few : entry .settings .«flash_base» ≤ 4294967296 = search needs in
-    let low : entry .settings .«cs0_base» ≤ 4294967296 = search needs in
-    c .either .ensures ∙ rw (past-window (entry .settings .«flash_base») (length (entry .image .now)) few, past-window (entry .settings .«cs0_base») (length (entry .image .now)) low)
+    c .either .ensures ∙ past-either (entry .settings) (entry .image .now) (search needs) (search needs)
 
 pub beyond-window-spec : {M : Type 1} → statement M
 beyond-window-spec =

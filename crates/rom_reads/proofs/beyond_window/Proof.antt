@@ -1,5 +1,5 @@
 use native.Mathlib.Omega.{arith}
-use mathlib.Core.Path.{refl, _∙_}
+use mathlib.Core.Path.{_∙_}
 use borrow.Author.Needs.{needs}
 use Rattle.rom_reads.specs.Steps.{past-top}
 use Rattle.rom_reads.proofs.beyond_window.Statement.{statement}

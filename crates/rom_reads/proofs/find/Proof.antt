@@ -59,8 +59,8 @@ returns-4 c =
     c .not-found4 .ensures
     ∙ sym (found-ended (entry .image .now) (entry .base) (entry .data) (entry .offset) (entry .n) set enough (sym (c .before .before .can-read .ensures) ∙ not-true _ (c .before .if4 .taken)))
 
-sub-t10 : tie.Need-sub-t10
-sub-t10 c =
+sub-at : tie.Need-sub-at
+sub-at c =
     let entry = c .before .before .before .before .before .before .before .before .before .before .args in
     let inside = true-inside (entry .image .now) (entry .base) (entry .data .pointer + entry .offset) (entry .n) (sym (c .before .can-read .ensures) ∙ not-false _ (c .if4 .left)) in
     omega arith
@@ -88,5 +88,5 @@ find-spec =
     can-read-requires
     not-found-requires-4
     returns-4
-    sub-t10
+    sub-at
     returns-5)

@@ -1,4 +1,3 @@
-use mathlib.Core.Path.{sym, _∙_}
 use borrow.Author.Needs.{needs}
 use Rattle.rom_reads.specs.Calls.{lentBy}
 use Rattle.rom_reads.specs.Steps.{byte-shown}

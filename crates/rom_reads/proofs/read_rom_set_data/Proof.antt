@@ -1,7 +1,7 @@
 use Prim.Native.Nat.{_+_, _<_, _≤_}
 use native.Mathlib.Omega.{arith}
 use mathlib.Core.Path.{_≡_, sym, ap, _∙_}
-use mathlib.Core.List.{List, []}
+use mathlib.Core.List.{[]}
 use lib.ListN.{length}
 use borrow.Author.Needs.{needs}
 use Rattle.prog.specs.Read.{part}
@@ -88,11 +88,11 @@ part-copy-end c =
 copy-requires : tie.Need-copy-requires
 copy-requires c κs = search needs
 
-cast-t17 : tie.Need-cast-t17
-cast-t17 c = search needs
+cast-count : tie.Need-cast-count
+cast-count c = search needs
 
-add-t25 : tie.Need-add-t25
-add-t25 c = search needs
+add-count : tie.Need-add-count
+add-count c = search needs
 
 same-length : tie.Need-same-length
 same-length c = search needs
@@ -132,7 +132,7 @@ read-rom-set-data-spec =
     part-copy-start
     part-copy-end
     copy-requires
-    cast-t17
-    add-t25
+    cast-count
+    add-count
     same-length
     returns-4)

@@ -41,16 +41,16 @@ returns-3 c =
     c .no-byte3 .ensures
     ∙ sym (stored-82 (entry .image .now) (entry .base) (entry .data) (entry .m) (entry .count) mangled (found .find .result) (found .find .ensures) there full)
 
-shared-slice-read-t10 : tie.Need-shared-slice-read-t10
-shared-slice-read-t10 c =
+shared-slice-read-byte : tie.Need-shared-slice-read-byte
+shared-slice-read-byte c =
     let found = c .before .before .before .before in
     let entry = found .before .before .before .before .args in
     let there : found .find .result .number ≡ 0 = omega arith in
     let inside = found-inside (entry .image .now) (entry .base) (entry .data) (entry .m .value) 1 (found .find .result) (found .find .ensures) there in
     omega arith
 
-add-t11 : tie.Need-add-t11
-add-t11 c = search needs
+add-count : tie.Need-add-count
+add-count c = search needs
 
 returns-4 : tie.Need-returns-4
 returns-4 c =
@@ -72,6 +72,6 @@ stored-byte-spec =
     returns-2
     no-byte-requires-3
     returns-3
-    shared-slice-read-t10
-    add-t11
+    shared-slice-read-byte
+    add-count
     returns-4)

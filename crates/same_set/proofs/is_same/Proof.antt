@@ -1,9 +1,7 @@
-use Prim.Native.Nat.{_+_, _*_, _≤_}
 use native.Mathlib.Omega.{arith}
 use mathlib.Core.Path.{_≡_, sym, _∙_}
-use lib.ListN.{length, drop, length-drop}
 use borrow.Author.Needs.{needs}
-use Rattle.rows.specs.LentRows.{sizeOf, romCount, serveOf, firstRom}
+use Rattle.rows.specs.LentRows.{sizeOf, romCount, serveOf}
 use Rattle.same_set.specs.Steps.{enough-rows, differ-size, differ-count, differ-serve, by-types}
 use Rattle.same_set.proofs.is_same.Statement.{statement}
 use Rattle.same_set.proofs.is_same.Tie as tie

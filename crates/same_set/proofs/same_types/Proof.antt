@@ -8,13 +8,13 @@ use Rattle.same_set.proofs.same_types.Statement.{statement}
 use Rattle.same_set.proofs.same_types.Tie as tie
 
 abbrev Inv-loop : tie.InvT-loop
-Inv-loop a b count at₀ left₀ at left =
-    (at + 7 * left ≤ length a)
-    × (at + 7 * left ≤ length b)
-    × (equal (typesIn (drop at a) left) (typesIn (drop at b) left) ≡ equal (typesIn a count) (typesIn b count))
+Inv-loop a b count i₀ left₀ i left =
+    (i + 7 * left ≤ length a)
+    × (i + 7 * left ≤ length b)
+    × (equal (typesIn (drop i a) left) (typesIn (drop i b) left) ≡ equal (typesIn a count) (typesIn b count))
 
 abbrev μ-loop : tie.MeasureT-loop
-μ-loop a b count at₀ left₀ at left = left
+μ-loop a b count i₀ left₀ i left = left
 
 loop-holds : tie.Need-loop-holds Inv-loop μ-loop
 loop-holds c = (omega arith, omega arith, refl)
@@ -36,10 +36,10 @@ returns c =
     let turn = c .before .before .before in
     let entry = turn .before .before .args in
     let p = turn .before .loop in
-    types-differ (entry .a .now) (entry .b .now) (p .at) (p .left) (omega arith) (omega arith) (turn .loop-test .taken) (c .if1 .taken) ∙ p .inv .2
+    types-differ (entry .a .now) (entry .b .now) (p .i) (p .left) (omega arith) (omega arith) (turn .loop-test .taken) (c .if1 .taken) ∙ p .inv .2
 
-add-at : tie.Need-add-at Inv-loop μ-loop
-add-at c = omega arith
+add-i : tie.Need-add-i Inv-loop μ-loop
+add-i c = omega arith
 
 sub-left : tie.Need-sub-left Inv-loop μ-loop
 sub-left c = omega arith
@@ -54,14 +54,14 @@ loop-again c =
     let p = turn .before .loop in (
       omega arith,
       omega arith,
-      types-next (entry .a .now) (entry .b .now) (p .at) (p .left) (omega arith) (omega arith) (turn .loop-test .taken) (omega arith) ∙ p .inv .2,
+      types-next (entry .a .now) (entry .b .now) (p .i) (p .left) (omega arith) (omega arith) (turn .loop-test .taken) (omega arith) ∙ p .inv .2,
     )
 
 returns-2 : tie.Need-returns-2 Inv-loop μ-loop
 returns-2 c =
     let entry = c .before .before .args in
     let p = c .before .loop in
-    types-same (entry .a .now) (entry .b .now) (p .at) (p .left) (c .loop-test .left) ∙ p .inv .2
+    types-same (entry .a .now) (entry .b .now) (p .i) (p .left) (c .loop-test .left) ∙ p .inv .2
 
 pub same-types-spec : {M : Type 1} → statement M
 same-types-spec =
@@ -75,7 +75,7 @@ same-types-spec =
     mul-if1-2
     shared-slice-read-if1-2
     returns
-    add-at
+    add-i
     sub-left
     loop-less
     loop-again

@@ -14,11 +14,12 @@ A line of stdin: a letter for the kind, then numbers of eight hexadecimal digits
     d pins-number byte data-pins                    demangling: number, value
     g pins-number served set-words rom-words first count type address levels pins    mangling: number, value
     G the same without levels                       all 32 levels, CS1 changing fastest
-tests/data/*-vectors.jsonl and tests/data/mangle-vectors.txt are answers of another reader of document 01; where the two differ, this script stops.
+tests/data/*-vectors.jsonl and tests/data/mangle-vectors.txt are answers of another reader of document 01, and tests/data/oracle-sample.txt of the
+Rust (docs/ORACLE.md); where one of them differs from the models, this script stops.
 """
 import json, os, random, struct
 
-import mangle, records, runtime
+import mangle, oracle, records, runtime
 
 TOP = os.path.join(os.path.dirname(os.path.abspath(__file__)), "..", "..")
 B = 0x08000000
@@ -208,6 +209,7 @@ def main():
             levels = sum((i >> k & 1) << 4 * k for k in range(5))
             answers += mangle.answer("g", (*given[:-1], levels, given[-1]))
         out.append((line("G", *given), answers))
+    out += oracle.records_and_mangles()
     crate = os.path.join(TOP, "crates/vectors")
     with open(os.path.join(crate, "stdin"), "w") as i, open(os.path.join(crate, "stdout"), "w") as o:
         for given, answer in out:

@@ -1,0 +1,261 @@
+//! The benchmark: the library's C entry points and the Rust on the same images, both plain release builds, taken in turns; the least of many
+//! rounds counts. Every measured answer is compared first.
+
+use std::hint::black_box;
+use std::time::Instant;
+
+use host::ffi::{self, Address, COpening, Lent, Rows};
+use host::fixed::measured;
+use host::image::Board;
+use host::rng::Rng;
+use onerom_fw_parser::readers::{Window, block_on};
+use onerom_fw_parser::{Parser, SdrrAddress, SdrrCsSet, SdrrInfo, SdrrLogicalAddress};
+
+/// 23512: sixteen address bits, so that a logical read can reach all of a 64 KiB set. 2364 for the mangles.
+const ROM_23512: u8 = 5;
+const ROM_2364: u8 = 2;
+const SET: usize = 65536;
+
+/// The least nanoseconds of one operation on each side.
+struct Least {
+    here: f64,
+    rust: f64,
+}
+
+struct Bench {
+    rounds: usize,
+}
+
+impl Bench {
+    /// Times both sides in turns; each call does `n` operations.
+    fn turns(&self, n: usize, mut here: impl FnMut(), mut rust: impl FnMut()) -> Least {
+        let mut least = Least { here: f64::MAX, rust: f64::MAX };
+        let time = |side: &mut dyn FnMut()| {
+            let from = Instant::now();
+            side();
+            from.elapsed().as_nanos() as f64 / n as f64
+        };
+        for round in 0..self.rounds {
+            if round % 2 == 0 {
+                least.here = least.here.min(time(&mut here));
+                least.rust = least.rust.min(time(&mut rust));
+            } else {
+                least.rust = least.rust.min(time(&mut rust));
+                least.here = least.here.min(time(&mut here));
+            }
+        }
+        least
+    }
+}
+
+fn show(what: &str, least: &Least) {
+    println!("{what:<44} {:>12.1} {:>12.1} {:>8.2}", least.here, least.rust, least.here / least.rust);
+}
+
+fn rust_opens(board: &Board) -> SdrrInfo {
+    let mut window = Window { image: &board.image, base: board.flash_base };
+    block_on(Parser::with_base_flash_address(&mut window, board.flash_base, 0).parse_flash()).expect("it opens")
+}
+
+struct Opened {
+    board: Board,
+    ours: COpening,
+    sets: Vec<u32>,
+    roms: Vec<u32>,
+    info: SdrrInfo,
+}
+
+fn open(board: Board) -> Opened {
+    let info = rust_opens(&board);
+    let (mut sets, mut roms) = (vec![0; 8 * 255], vec![0; 7 * 255 * 4]);
+    let ours = ffi::open(&board.image, board.flash_base, &mut sets, &mut roms);
+    assert!(ours.number == 0 && ours.report.served() as usize == info.rom_sets.len(), "both open it");
+    let all = info.rom_sets.iter().flat_map(|s| &s.roms);
+    for (row, rom) in roms.chunks(7).zip(all) {
+        let name = &board.image[row[4] as usize..(row[4] + row[5]) as usize];
+        assert!(rom.filename.as_deref().map(str::as_bytes) == Some(name), "both find its name");
+    }
+    Opened { board, ours, sets, roms, info }
+}
+
+fn openings(bench: &Bench) {
+    for sets in [1, 8, 64, 255] {
+        for roms in [1, 4] {
+            let o = open(measured(sets, roms, ROM_2364, 64));
+            let (mut set_rows, mut rom_rows) = (o.sets.clone(), o.roms.clone());
+            let times = (2000 / (sets * roms)).max(4);
+            let least = bench.turns(
+                times,
+                || {
+                    for _ in 0..times {
+                        black_box(ffi::open(black_box(&o.board.image), o.board.flash_base, &mut set_rows, &mut rom_rows));
+                    }
+                },
+                || {
+                    for _ in 0..times {
+                        black_box(rust_opens(black_box(&o.board)));
+                    }
+                },
+            );
+            show(&format!("open, sets: {sets}, ROMs in each: {roms}"), &least);
+        }
+    }
+}
+
+fn pins_of(info: &SdrrInfo) -> ffi::Pins {
+    let p = info.pins.as_ref().expect("there");
+    ffi::Pins {
+        number: 0,
+        rom_pins: p.rom_pins,
+        data: p.data.clone().try_into().expect("eight"),
+        addr: p.addr.clone().try_into().expect("sixteen"),
+        control: [p.cs1, p.cs2, p.cs3, p.x1, p.x2, p.ce, p.oe],
+    }
+}
+
+fn mangles(bench: &Bench) {
+    const N: u32 = 8192;
+    let o = open(measured(1, 1, ROM_2364, 64));
+    let pins = pins_of(&o.info);
+    let rows = Rows { served: 1, sets: &o.sets, roms: &o.roms };
+    let levels = [1, 0, 0, 0, 0];
+    let lines = SdrrCsSet::new(true, Some(false), Some(false), Some(false), Some(false));
+    let here = |address: u32| {
+        let mut value = 0;
+        assert!(ffi::mangle(&pins, rows, address, &levels, &mut value) == 0);
+        value
+    };
+    let rust = |address: u32| o.info.mangle_address(&SdrrLogicalAddress::new(address, lines)).expect("it has an offset");
+    assert!((0..N).all(|a| here(a) == rust(a)), "both mangle alike");
+    let least = bench.turns(
+        N as usize,
+        || {
+            for a in 0..N {
+                black_box(here(black_box(a)));
+            }
+        },
+        || {
+            for a in 0..N {
+                black_box(rust(black_box(a)));
+            }
+        },
+    );
+    show("mangle", &least);
+}
+
+fn demangles(bench: &Bench) {
+    const TIMES: usize = 64;
+    let o = open(measured(1, 1, ROM_2364, 64));
+    let pins = pins_of(&o.info);
+    let here = |byte: u8| {
+        let mut value = 0;
+        assert!(ffi::demangle(&pins, byte, &mut value) == 0);
+        value
+    };
+    let rust = |byte: u8| o.info.demangle_byte(byte).expect("it has a value");
+    assert!((0..=255).all(|b| here(b) == rust(b)), "both demangle alike");
+    let least = bench.turns(
+        256 * TIMES,
+        || {
+            for b in (0..TIMES).flat_map(|_| 0..=255) {
+                black_box(here(black_box(b)));
+            }
+        },
+        || {
+            for b in (0..TIMES).flat_map(|_| 0..=255) {
+                black_box(rust(black_box(b)));
+            }
+        },
+    );
+    show("demangle", &least);
+}
+
+fn logical_reads(bench: &Bench) {
+    let mut o = open(measured(1, 1, ROM_23512, SET));
+    let levels = [0; 5];
+    let lines = SdrrCsSet::new(false, None, None, None, None);
+    let lent = Lent { image: &o.board.image, flash_base: o.board.flash_base, report: &o.ours.report, sets: &o.sets, roms: &o.roms };
+    let here = |address: u32, count: &mut u32| {
+        let mut value = 0;
+        assert!(ffi::byte(lent, 0, Address::Logical(address, levels), true, count, &mut value) == 0);
+        value
+    };
+    let mut window = Window { image: &o.board.image, base: o.board.flash_base };
+    let mut parser = Parser::with_base_flash_address(&mut window, o.board.flash_base, 0);
+    let info = &mut o.info;
+    let mut rust = |address: u32| {
+        let at = SdrrAddress::from_logical(address, &lines);
+        block_on(info.read_rom_byte_demangled(&mut parser, 0, at)).expect("it is there")
+    };
+    let mut count = 0;
+    assert!((0..SET as u32).all(|a| here(a, &mut count) == rust(a)), "both read alike");
+    assert!(count == SET as u32, "each read counts");
+    let least = bench.turns(
+        SET,
+        || {
+            let mut count = 0;
+            for a in 0..SET as u32 {
+                black_box(here(black_box(a), &mut count));
+            }
+        },
+        || {
+            for a in 0..SET as u32 {
+                black_box(rust(black_box(a)));
+            }
+        },
+    );
+    show("logical byte read, demangled, of 64 KiB", &least);
+}
+
+fn data(bench: &Bench) {
+    let mut o = open(measured(1, 1, ROM_23512, SET));
+    let lent = Lent { image: &o.board.image, flash_base: o.board.flash_base, report: &o.ours.report, sets: &o.sets, roms: &o.roms };
+    let (mut ours, mut theirs) = (vec![0; SET], vec![0; SET]);
+    let mut window = Window { image: &o.board.image, base: o.board.flash_base };
+    let mut parser = Parser::with_base_flash_address(&mut window, o.board.flash_base, 0);
+    let info = &mut o.info;
+    let here = |buffer: &mut [u8]| assert!(ffi::data(lent, 0, 0, buffer, &mut 0) == 0);
+    let mut rust = |buffer: &mut [u8]| block_on(info.read_rom_set_data(&mut parser, 0, 0, buffer)).expect("it is there");
+    here(&mut ours);
+    rust(&mut theirs);
+    assert!(ours == theirs, "both read alike");
+    const TIMES: usize = 16;
+    let least = bench.turns(
+        TIMES,
+        || {
+            for _ in 0..TIMES {
+                here(black_box(&mut ours));
+            }
+        },
+        || {
+            for _ in 0..TIMES {
+                rust(black_box(&mut theirs));
+            }
+        },
+    );
+    show("ROM data, 64 KiB", &least);
+    let mut source = vec![0; SET];
+    Rng::new(9).fill(&mut source);
+    let mut to = vec![0; SET];
+    let copy = |to: &mut [u8]| black_box(to).copy_from_slice(black_box(&source));
+    let plain = bench.turns(TIMES, || (0..TIMES).for_each(|_| copy(&mut to)), || ());
+    println!("{:<44} {:>12.1}", "memcpy, 64 KiB", plain.here);
+}
+
+fn main() {
+    let rounds = match std::env::args().nth(1).map(|n| n.parse()) {
+        None => 60,
+        Some(Ok(rounds)) => rounds,
+        Some(Err(_)) => {
+            eprintln!("usage: bench [ROUNDS]");
+            std::process::exit(2);
+        }
+    };
+    let bench = Bench { rounds };
+    println!("nanoseconds for one, the least of {rounds} rounds        here         Rust    ratio");
+    openings(&bench);
+    mangles(&bench);
+    demangles(&bench);
+    logical_reads(&bench);
+    data(&bench);
+}

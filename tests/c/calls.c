@@ -101,10 +101,145 @@ static void boards(void) {
     expect(onerom_demangle(3, data, 1, &b) == 70 && b == 77, "70, demangle");
 }
 
+#define FLASH 0x08000000u
+#define CS0 0x10000000u
+
+static void put16(uint8_t *at, uint32_t v) {
+    at[0] = (uint8_t)v;
+    at[1] = (uint8_t)(v >> 8);
+}
+
+static void put32(uint8_t *at, uint32_t v) {
+    put16(at, v);
+    put16(at + 2, v >> 16);
+}
+
+/* A board of 0.4.0 with one set of one 2364 and 16 bytes, data pins in reverse; pointers go by base. */
+static void small_board(uint8_t image[1552], uint32_t line, uint32_t base) {
+    memset(image, 0, 1552);
+    uint8_t *h = image + 512, *set = image + 768, *pins = image + 1024;
+    memcpy(h, "SDRR", 4);
+    put16(h + 6, 4);
+    put32(h + 12, base + 1200);
+    put32(h + 24, base + 1216);
+    put16(h + 28, line);
+    put16(h + 30, 1);
+    put16(h + 32, 168);
+    h[34] = 9;
+    h[41] = 1;
+    put32(h + 44, base + 768);
+    put32(h + 48, base + 1024);
+    put32(h + 56, base + 1280);
+    put32(set, base + 1536);
+    put32(set + 4, 16);
+    put32(set + 8, base + 900);
+    set[12] = 1;
+    put32(image + 900, base + 904);
+    image[904] = 2;
+    memset(pins + 16, 255, 30);
+    pins[5] = 24;
+    for (int i = 0; i < 8; i++) pins[8 + i] = (uint8_t)(7 - i);
+    for (int i = 0; i < 13; i++) pins[16 + i] = (uint8_t)i;
+    pins[36] = 13;
+    strcpy((char *)image + 1200, "2026-01-02");
+    strcpy((char *)image + 1216, "ice-24-d");
+    for (int i = 0; i < 16; i++) image[1536 + i] = (uint8_t)(17 * i);
+}
+
+static uint32_t rows[2][16];
+
+static struct onerom_opening open_board(const uint8_t *image, size_t len, size_t set_words, size_t rom_words) {
+    memset(rows, 0xA5, sizeof rows);
+    return onerom_open(image, len, FLASH, CS0, 512, rows[0], set_words, rows[1], rom_words);
+}
+
+static int rows_untouched(void) {
+    for (int i = 0; i < 16; i++)
+        if (rows[0][i] != 0xA5A5A5A5u || rows[1][i] != 0xA5A5A5A5u) return 0;
+    return 1;
+}
+
+static void opening(void) {
+    uint8_t image[1552];
+    small_board(image, 1, FLASH);
+    struct onerom_opening o = open_board(image, sizeof image, 16, 16);
+    static const uint32_t set[9] = {FLASH + 1536, 16, 0, 1, 0, 0, 0, 0, 0xA5A5A5A5u};
+    static const uint32_t rom[8] = {2, 0, 0, 0, 0, 0, 1, 0xA5A5A5A5u};
+    const struct onerom_report *r = &o.report;
+    expect(o.number == 0, "opened");
+    expect(memcmp(rows[0], set, sizeof set) == 0 && memcmp(rows[1], rom, sizeof rom) == 0, "rows, and no word after them");
+    expect(r->header.minor == 4 && r->header.line == 1 && r->header.storage == 1 && r->header.freq == 168, "header");
+    expect(r->header.overclock == 1 && r->header.swd_enabled == 0, "flags");
+    expect(r->build_date.number == 0 && r->build_date.offset == 1200 && r->build_date.length == 10, "build date");
+    expect(r->hw_rev.number == 0 && r->hw_rev.offset == 1216 && r->hw_rev.length == 8, "revision");
+    expect(r->extra_info.number == 0 && r->extra_info.fire_pio_default == 2, "extra info");
+    expect(r->metadata.looked_for == 0 && r->metadata.number == 0, "metadata is not looked for");
+    expect(r->rom_sets.number == 0 && r->rom_sets.rom_set_count == 1 && r->rom_sets.served == 1, "sets");
+    expect(r->pins.number == 0 && r->pins.rom_pins == 24 && r->pins.data[0] == 7 && r->pins.cs1 == 13, "pins");
+
+    o = open_board(image, sizeof image, 7, 16);
+    expect(o.number == 44 && o.report.rom_sets.served == 0 && rows_untouched(), "44");
+    expect(open_board(image, sizeof image, 8, 6).number == 45 && rows_untouched(), "45");
+    expect(open_board(image, sizeof image, 8, 7).number == 0, "rows that just fit");
+    expect(open_board(image, 575, 16, 16).number == 2 && rows_untouched(), "header ended");
+    expect(open_board(NULL, 0, 16, 16).number == 2 && rows_untouched(), "no image");
+    o = onerom_open(image, sizeof image, FLASH, 4294967295u, 512, rows[0], 16, rows[1], 16);
+    expect(o.number == 1 && o.report.extra_info.runtime_info_ptr == 4294967295u && rows_untouched(), "1 looks at both bases");
+    image[512] = 0;
+    expect(open_board(image, sizeof image, 16, 16).number == 10 && rows_untouched(), "10");
+}
+
+/* One byte by its address. */
+static uint32_t byte(const uint8_t *image, struct onerom_report r, int demangled, uint32_t set, uint8_t logical, uint32_t address,
+                     uint32_t *count, uint8_t *value) {
+    static const uint8_t low[5];
+    *value = 77;
+    return (demangled ? onerom_read_rom_byte_demangled : onerom_read_rom_byte_raw)(
+        image, 1552, FLASH, CS0, r, rows[0], 8, rows[1], 7, set, logical, address, low, count, value);
+}
+
+/* ROM data, the byte reads, size and same set on a board that stands at base. */
+static void reads(uint32_t line, uint32_t base) {
+    uint8_t image[1552], buffer[5], b;
+    uint32_t count = 0, v = 77;
+    small_board(image, line, base);
+    struct onerom_report r = open_board(image, sizeof image, 16, 16).report;
+    memset(buffer, 0xA5, 5);
+    expect(onerom_read_rom_set_data(image, 1552, FLASH, CS0, r, rows[0], 8, 0, 3, buffer, 4, &count) == 0 && count == 4, "ROM data");
+    expect(buffer[0] == 51 && buffer[3] == 102 && buffer[4] == 0xA5, "its bytes, and no byte after them");
+    memset(buffer, 0xA5, 5);
+    expect(onerom_read_rom_set_data(image, 1552, FLASH, CS0, r, rows[0], 8, 0, 13, buffer, 4, &count) == 81 && count == 4, "81");
+    expect(onerom_read_rom_set_data(image, 1552, FLASH, CS0, r, rows[0], 8, 1, 0, buffer, 4, &count) == 80 && count == 4, "80");
+    expect(onerom_read_rom_set_data(image, 1552, FLASH, CS0, r, rows[0], 7, 0, 0, buffer, 4, &count) == 4 && count == 4, "4, read");
+    expect(onerom_read_rom_set_data(image, 1551, FLASH, CS0, r, rows[0], 8, 0, 12, buffer, 4, &count) == 2 && count == 4, "2, read");
+    count = 4294967292u;
+    expect(onerom_read_rom_set_data(image, 1552, FLASH, CS0, r, rows[0], 8, 0, 0, buffer, 4, &count) == 82, "82");
+    expect(count == 4294967292u && buffer[0] == 0xA5, "82 counts and writes nothing");
+    expect(onerom_read_rom_set_data(image, 1552, FLASH, CS0, r, rows[0], 8, 0, 0, buffer, 3, &count) == 0 && count == 4294967295u, "up to 82");
+    expect(onerom_read_rom_set_data(image, 1552, FLASH, CS0, r, rows[0], 8, 0, 16, NULL, 0, &count) == 0, "no bytes");
+    count = 0;
+    expect(byte(image, r, 0, 0, 0, 5, &count, &b) == 0 && b == 85 && count == 1, "a raw byte");
+    expect(byte(image, r, 1, 0, 0, 5, &count, &b) == 0 && b == 170 && count == 2, "a byte, demangled");
+    expect(byte(image, r, 1, 0, 1, 5, &count, &b) == 0 && b == 170 && count == 3, "a logical address");
+    expect(byte(image, r, 1, 0, 1, 8192, &count, &b) == 77 && b == 77 && count == 3, "77 counts nothing");
+    r.pins.data[0] = 8;
+    expect(byte(image, r, 1, 0, 0, 5, &count, &b) == 79 && b == 77 && count == 3, "79 counts nothing");
+    expect(byte(image, r, 0, 0, 0, 5, &count, &b) == 0 && count == 4, "a raw byte skips demangling");
+    expect(onerom_get_rom_set_size(1, rows[0], 8, 0, &v) == 0 && v == 16, "size");
+    v = 77;
+    expect(onerom_get_rom_set_size(1, rows[0], 8, 1, &v) == 80 && v == 77, "80, size");
+    expect(onerom_same_set(1, rows[0], 8, rows[1], 7, 0, 0, &v) == 0 && v == 1, "same set");
+    v = 77;
+    expect(onerom_same_set(1, rows[0], 8, rows[1], 6, 0, 0, &v) == 4 && v == 77, "4, same set");
+}
+
 int main(void) {
     runtime_record();
     boards();
     strings();
+    opening();
+    reads(1, FLASH);
+    reads(5, CS0);
     if (!failed) printf("ok\n");
     return failed;
 }

@@ -15,3 +15,17 @@ test_c_header_in_cpp() {
     printf '#include "onerom.h"\nint main() { uint32_t w[ONEROM_RUNTIME_WORDS]; return (int)onerom_runtime(nullptr, 0, 0, w); }\n' >target/header.cpp &&
         c++ -std=c++11 -Wall -Werror -Iinclude -c -o target/header.o target/header.cpp
 }
+
+# The examples, on a sample board: C's and Rust's say the same.
+test_c_example() {
+    cc -std=c99 -Wall -Wextra -Werror -Iinclude -o target/example-c examples/c/board.c target/staticlib/libonerom.a &&
+        target/example-c samples/rp2350.img >target/example-c.out &&
+        cmp target/example-c.out tests/data/example.txt
+}
+
+test_rust_example() {
+    command -v rustc >/dev/null || { echo "Rust's example not run: there is no rustc"; return 0; }
+    rustc --edition 2024 -D warnings -O -o target/example-rust examples/rust/board.rs -L target/staticlib -l static=onerom &&
+        target/example-rust samples/rp2350.img >target/example-rust.out &&
+        cmp target/example-rust.out tests/data/example.txt
+}

@@ -7,10 +7,9 @@ use native.Mathlib.Nat.{zero-add, add-zero}
 use mathlib.Core.Path.{_≡_, refl, sym, ap, _∙_}
 use mathlib.Core.Bool.{true, false, not}
 use mathlib.Core.List.{List, [], _∷_}
-use lib.Dec.{ltb, eqb}
 use lib.ListN.{length, getD, take, drop, length-drop}
 use lib.Seq.{length-take-le}
-use borrow.Author.Tests.{ltb-true, ltb-false, eqb-true, eqb-false, ne-eqb}
+use borrow.Author.Tests.{ne-eqb}
 use Rattle.text.specs.Nul.{by-test}
 use Rattle.header.specs.Header.{baseAfter}
 use Rattle.info.specs.declared.SdrrAddress.{SdrrAddress}
@@ -19,10 +18,9 @@ use Rattle.info.specs.Reads.{RomRead, range, byte, physical, Reply, romRead, bu
 use Rattle.info.specs.History.{acceptedLengths, count-step, count-sums, count-fits}
 use Rattle.rom_reads.specs.declared.Board.{Board}
 use Rattle.rom_reads.specs.declared.ByteRead.{ByteRead}
-use Rattle.rom_reads.specs.declared.Found.{Found}
 use Rattle.rom_reads.specs.Calls.{lentBy, byteOf}
 use Rattle.rom_reads.specs.Found.{beyond, setData, foundOf}
-use Rattle.rom_reads.specs.Steps.{read-beyond, found-stands, found-inside, data-refused, data-82, data-read, by-address, byte-raw, byte-shown, stored-at, shown-value}
+use Rattle.rom_reads.specs.Steps.{read-beyond, found-stands, found-inside, data-accepted, by-address, byte-raw, byte-shown, stored-at, shown-value}
 
 -- ROM data does not look at ROM rows: the statement of `read_rom_set_data`, which has none, holds with any
 pub no-rom-rows : (b : Board) (sets roms : List ℕ) (count set offset n : ℕ) (x : List ℕ)
@@ -54,36 +52,17 @@ module _ (flashBase cs0Base : ℕ) (l : Lent) (x : List ℕ) where
     pub whole : length left ≡ length lent
     pub bytes : left ≡ take (length lent) (drop (place set offset) x)
 
-  module _ (count set offset : ℕ) (lent : List ℕ) where
-    f : Found
-    f = foundOf x (baseAfter flashBase cs0Base (l .line)) (setData (l .served) (l .setWords) set) offset (length lent)
-
-    accepted : romRead flashBase cs0Base l count (range set offset (length lent)) x .number ≡ 0
-        → (f .number ≡ 0) × (romRead flashBase cs0Base l count (range set offset (length lent)) x ≡ record { number = 0; bytes = take (length lent) (drop (f .at) x); count = count + length lent })
-    unfolding f
-    accepted e =
-        by-test (beyond flashBase cs0Base (length x))
-        (λ h. let z : _≡_ {A = ℕ} 1 0 = ap (λ (r : Reply). r .number) (sym (read-beyond flashBase cs0Base l count x (range set offset (length lent)) h)) ∙ e in absurd (omega arith))
-        (λ h.
-        by-test (eqb (f .number) 0)
-        (λ i.
-        let there = eqb-true (f .number) 0 i in
-        by-test (ltb 4294967295 (count + length lent))
-        (λ j. let z : _≡_ {A = ℕ} 82 0 = ap (λ (r : Reply). r .number) (sym (data-82 flashBase cs0Base l count x set offset (length lent) h _ refl _ refl f refl there (ltb-true 4294967295 (count + length lent) j))) ∙ e in absurd (omega arith))
-        (λ j. (there, data-read flashBase cs0Base l count x set offset (length lent) h _ refl _ refl f refl there (ltb-false 4294967295 (count + length lent) j))))
-        (λ i. let none = eqb-false (f .number) 0 i in absurd (none (ap (λ (r : Reply). r .number) (sym (data-refused flashBase cs0Base l count x set offset (length lent) h _ refl _ refl f refl none)) ∙ e))))
-
-    pub accepted-fills : romRead flashBase cs0Base l count (range set offset (length lent)) x .number ≡ 0
-        → Filled set offset lent (bufferLeft (romRead flashBase cs0Base l count (range set offset (length lent)) x) lent)
-    unfolding f
-    accepted-fills e =
-        let a = accepted e in
-        let base = baseAfter flashBase cs0Base (l .line) in
-        let d = setData (l .served) (l .setWords) set in
-        let s = found-stands x base d offset (length lent) f refl (a .0) in
-        let inside : place set offset + length lent ≤ length x = rw (s .starts) at (found-inside x base d offset (length lent) f refl (a .0)) in
-        let fits : length lent ≤ length (drop (place set offset) x) = rw (length-drop (place set offset) x) (omega arith) in
-        rw (a .1, s .starts) (record { in-set = s .in-set; in-image = inside; whole = length-take-le (length lent) (drop (place set offset) x) fits; bytes = refl })
+  pub accepted-fills : (count set offset : ℕ) (lent : List ℕ) → romRead flashBase cs0Base l count (range set offset (length lent)) x .number ≡ 0
+      → Filled set offset lent (bufferLeft (romRead flashBase cs0Base l count (range set offset (length lent)) x) lent)
+  accepted-fills count set offset lent e =
+      let base = baseAfter flashBase cs0Base (l .line) in
+      let d = setData (l .served) (l .setWords) set in
+      let f = foundOf x base d offset (length lent) in
+      let a = data-accepted flashBase cs0Base l count x set offset (length lent) e in
+      let s = found-stands x base d offset (length lent) f refl (a .0) in
+      let inside : place set offset + length lent ≤ length x = rw (s .starts) at (found-inside x base d offset (length lent) f refl (a .0)) in
+      let fits : length lent ≤ length (drop (place set offset) x) = rw (length-drop (place set offset) x) (omega arith) in
+      rw (a .1, s .starts) (record { in-set = s .in-set; in-image = inside; whole = length-take-le (length lent) (drop (place set offset) x) fits; bytes = refl })
 
   -- ---- an accepted byte is the image's, at the mangled address; demangled, it is what the data pins make of that
 

@@ -4,7 +4,7 @@ use Prim.Native.Nat.{ℕ, _+_, _-_, _≤_, _<_}
 use native.Mathlib.Omega.{arith}
 use native.Mathlib.Nat.{add-zero}
 use mathlib.Core.Path.{_≡_, refl, sym, ap, _∙_}
-use mathlib.Core.Bool.{Bool, true, false, not}
+use mathlib.Core.Bool.{Bool, true, false, not, _||_}
 use mathlib.Core.List.{List, []}
 use lib.Dec.{ltb, eqb}
 use lib.ListN.{length, getD, take, drop}
@@ -28,12 +28,16 @@ use Rattle.rom_reads.specs.Found.{beyond, setData, notFound, foundOf, no
 
 -- ---- the window
 
--- the code's test, in which no sum can overflow
-pub past-top : (base n : ℕ) → base ≤ 4294967296 → ltb (4294967296 - base) n ≡ ltb 4294967296 (base + n)
+past-top : (base n : ℕ) → base ≤ 4294967296 → ltb (4294967296 - base) n ≡ ltb 4294967296 (base + n)
 past-top base n h =
     by-test (ltb 4294967296 (base + n))
     (λ e. let i : 4294967296 - base < n = omega (arith, ltb-true 4294967296 (base + n) e) in lt-ltb (4294967296 - base) n i ∙ sym e)
     (λ e. let i : n ≤ 4294967296 - base = omega (arith, ltb-false 4294967296 (base + n) e) in le-ltb (4294967296 - base) n i ∙ sym e)
+
+-- the code's tests, in which no sum can overflow
+pub beyond-top : (flashBase cs0Base n : ℕ) → flashBase ≤ 4294967296 → cs0Base ≤ 4294967296
+    → (ltb (4294967296 - flashBase) n || ltb (4294967296 - cs0Base) n) ≡ beyond flashBase cs0Base n
+beyond-top flashBase cs0Base n h i = rw (past-top flashBase n h, past-top cs0Base n i)
 
 -- ---- size
 
@@ -156,6 +160,24 @@ module _ (flashBase cs0Base : ℕ) (l : Lent) (count : ℕ) (x : List ℕ) where
         → romRead flashBase cs0Base l count (range set offset n) x ≡ record { number = 0; bytes = take n (drop (f .at) x); count = count + n }
     unfolding finished countNumber
     data-read h i = data-within ∙ rw (eq-eqb (f .number) 0 h, le-ltb 4294967295 (count + n) i)
+
+  -- an accepted call: the bytes are found, and the count has room
+  pub data-accepted : (set offset n : ℕ) → romRead flashBase cs0Base l count (range set offset n) x .number ≡ 0
+      → (foundOf x (baseAfter flashBase cs0Base (l .line)) (setData (l .served) (l .setWords) set) offset n .number ≡ 0)
+      × (romRead flashBase cs0Base l count (range set offset n) x
+      ≡ record { number = 0; bytes = take n (drop (foundOf x (baseAfter flashBase cs0Base (l .line)) (setData (l .served) (l .setWords) set) offset n .at) x); count = count + n })
+  data-accepted set offset n e =
+      let f = foundOf x (baseAfter flashBase cs0Base (l .line)) (setData (l .served) (l .setWords) set) offset n in
+      by-test (beyond flashBase cs0Base (length x))
+      (λ h. let z : _≡_ {A = ℕ} 1 0 = ap (λ (r : Reply). r .number) (sym (read-beyond (range set offset n) h)) ∙ e in absurd (omega arith))
+      (λ h.
+      by-test (eqb (f .number) 0)
+      (λ i.
+      let there = eqb-true (f .number) 0 i in
+      by-test (ltb 4294967295 (count + n))
+      (λ j. let z : _≡_ {A = ℕ} 82 0 = ap (λ (r : Reply). r .number) (sym (data-82 set offset n h _ refl _ refl f refl there (ltb-true 4294967295 (count + n) j))) ∙ e in absurd (omega arith))
+      (λ j. (there, data-read set offset n h _ refl _ refl f refl there (ltb-false 4294967295 (count + n) j))))
+      (λ i. let none = eqb-false (f .number) 0 i in absurd (none (ap (λ (r : Reply). r .number) (sym (data-refused set offset n h _ refl _ refl f refl none)) ∙ e))))
 
 -- ---- a byte, raw
 

@@ -1,7 +1,7 @@
 use native.Mathlib.Omega.{arith}
 use mathlib.Core.Path.{_∙_}
 use borrow.Author.Needs.{needs}
-use Rattle.rom_reads.specs.Steps.{past-top}
+use Rattle.rom_reads.specs.Steps.{beyond-top}
 use Rattle.rom_reads.proofs.beyond_window.Statement.{statement}
 use Rattle.rom_reads.proofs.beyond_window.Tie as tie
 
@@ -17,7 +17,7 @@ either-requires c κs = search needs
 returns : tie.Need-returns
 returns c =
     let entry = c .before .args in
-    c .either .ensures ∙ rw (past-top (entry .flash-base) (entry .length) (omega arith), past-top (entry .cs0-base) (entry .length) (omega arith))
+    c .either .ensures ∙ beyond-top (entry .flash-base) (entry .cs0-base) (entry .length) (omega arith) (omega arith)
 
 pub beyond-window-spec : {M : Type 1} → statement M
 beyond-window-spec = tie.close (tie.spec sub-either sub-either-2 either-requires returns)

@@ -25,10 +25,11 @@ use Rattle.fw_parser.specs.Opening.{Opened}
 use Rattle.fw_parser.specs.Reply.{replyOf}
 use Rattle.c_report.specs.declared.OneromReport.{OneromReport}
 use Rattle.c_report.specs.Report.{reportOut, boardIn}
-use Rattle.onerom.specs.Board.{levelsFrom, pinsFrom, pinsItem, mangleCall, demangleCall, valueAfter}
+use Rattle.c_board.specs.Board.{levelsFrom, pinsFrom, pinsItem, addressFrom}
+use Rattle.onerom.specs.Board.{mangleCall, demangleCall, valueAfter}
 use Rattle.onerom.specs.declared.opening.OneromOpening.{OneromOpening}
 use Rattle.onerom.specs.Opening.{handedOut, openingOut}
-use Rattle.onerom.specs.Reads.{addressFrom, dataCall, byteCall}
+use Rattle.onerom.specs.Reads.{dataCall, byteCall}
 
 -- a refusal changes nothing
 pub kept-value : (n v b : ℕ) → (n ≡ 0 → ⊥) → b ≡ valueAfter n v b

@@ -2,19 +2,12 @@
 use Prim.Native.Nat.{ℕ}
 use mathlib.Core.Bool.{Bool}
 use mathlib.Core.List.{List, []}
-use lib.Dec.{eqb}
-use Rattle.le.specs.Choice.{pick}
-use Rattle.info.specs.declared.SdrrAddress.{SdrrAddress}
 use Rattle.info.specs.Reads.{range, byte, Reply, romRead}
 use Rattle.rom_reads.specs.declared.ByteRead.{ByteRead}
 use Rattle.rom_reads.specs.Calls.{lentBy, byteOf}
 use Rattle.c_report.specs.declared.OneromReport.{OneromReport}
 use Rattle.c_report.specs.Report.{boardIn}
-use Rattle.onerom.specs.Board.{levelsFrom}
-
--- 1 is a logical address with its levels, every other a raw offset
-abbrev pub addressFrom : (logical address : ℕ) → List ℕ → SdrrAddress
-addressFrom logical address levels = pick (eqb logical 1) (SdrrAddress.Logical address (levelsFrom levels)) (SdrrAddress.Raw address)
+use Rattle.c_board.specs.Board.{addressFrom}
 
 -- ROM data looks at no ROM row
 unfoldable pub dataCall : (flashBase cs0Base : ℕ) → OneromReport → (sets : List ℕ) → (set offset n count : ℕ) → List ℕ → Reply

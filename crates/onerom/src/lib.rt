@@ -5,14 +5,9 @@ pub mod reads;
 ghost use mathlib.Core.Path.{_≡_};
 ghost use Rattle.runtime_info.specs.Runtime.{runtimeOf};
 ghost use Rattle.text.specs.Text.{stringCall, partAfter};
-ghost use Rattle.onerom.specs.Board.{levelOf, levelsFrom, pinsFrom, pinsItem, mangleCall, demangleCall, valueAfter};
+ghost use Rattle.onerom.specs.Board.{mangleCall, demangleCall, valueAfter};
 ghost use Rattle.runtime_info.specs.Words.{numberOf, wordsAfter};
-use pins::PinsItem;
-use pins::SdrrPins;
 use runtime_info::SdrrRuntimeInfo;
-use types::Level;
-use types::SdrrCsSet;
-use types::SdrrMcuPort;
 
 #[no_mangle]
 pub extern "C" fn onerom_runtime(record: &[u8], ram_base: u32, words: &mut [u32; 25]) -> u32
@@ -54,73 +49,6 @@ pub extern "C" fn onerom_string(image: &[u8], base: u32, pointer: u32, part: &mu
     0
 }
 
-fn level_of(n: u8) -> Level
-    ensures { λ r. ⌜ r ≡ levelOf n ⌝ }
-{
-    if n == 1 {
-        return Level::High;
-    }
-    Level::Low
-}
-
-pub(crate) fn levels_from(levels: [u8; 5]) -> SdrrCsSet
-    ensures { λ r. ⌜ r ≡ levelsFrom levels ⌝ }
-{
-    SdrrCsSet {
-        cs1: level_of(levels[0]),
-        cs2: level_of(levels[1]),
-        cs3: level_of(levels[2]),
-        x1: level_of(levels[3]),
-        x2: level_of(levels[4]),
-    }
-}
-
-fn pins_from(rom_pins: u8, data: [u8; 8], addr: [u8; 16], control: [u8; 7]) -> SdrrPins
-    ensures { λ r. ⌜ r ≡ pinsFrom «rom_pins» «data» addr control ⌝ }
-{
-    SdrrPins {
-        data_port: SdrrMcuPort::None,
-        addr_port: SdrrMcuPort::None,
-        cs_port: SdrrMcuPort::None,
-        sel_port: SdrrMcuPort::None,
-        status_port: SdrrMcuPort::None,
-        rom_pins,
-        data,
-        addr,
-        cs1: control[0],
-        cs2: control[1],
-        cs3: control[2],
-        reserved2a: 0,
-        reserved2b: 0,
-        reserved2c: 0,
-        x1: control[3],
-        x2: control[4],
-        ce: control[5],
-        oe: control[6],
-        x_jumper_pull: 0,
-        swclk_sel: 0,
-        swdio_sel: 0,
-        sel0: 0,
-        sel1: 0,
-        sel2: 0,
-        sel3: 0,
-        sel4: 0,
-        sel5: 0,
-        sel6: 0,
-        sel_jumper_pull: 0,
-        status: 0,
-        extended: 0,
-        data2: [0, 0, 0, 0, 0, 0, 0, 0],
-        addr2: [0, 0, 0, 0, 0, 0, 0, 0, 0, 0, 0, 0, 0, 0, 0, 0],
-    }
-}
-
-fn pins_item(number: u8, pins: SdrrPins) -> PinsItem
-    ensures { λ r. ⌜ r ≡ pinsItem number pins ⌝ }
-{
-    PinsItem { number, pins }
-}
-
 #[no_mangle]
 pub extern "C" fn onerom_mangle(
     pins_number: u8,
@@ -137,9 +65,9 @@ pub extern "C" fn onerom_mangle(
     ensures reply { λ r. ⌜ r ≡ mangleCall «pins_number» «rom_pins» (now (addr .entry)) (now (control .entry)) served (now («set_rows» .entry)) (now («rom_rows» .entry)) address (now (levels .entry)) .number ⌝ }
     ensures value { λ r. ⌜ now (value .exit) ≡ valueAfter r (mangleCall «pins_number» «rom_pins» (now (addr .entry)) (now (control .entry)) served (now («set_rows» .entry)) (now («rom_rows» .entry)) address (now (levels .entry)) .value) (now (value .entry)) ⌝ }
 {
-    let pins = pins_from(rom_pins, [0, 0, 0, 0, 0, 0, 0, 0], *addr, *control);
-    let item = pins_item(pins_number, pins);
-    let set = levels_from(*levels);
+    let pins = c_board::pins_from(rom_pins, [0, 0, 0, 0, 0, 0, 0, 0], *addr, *control);
+    let item = c_board::pins_item(pins_number, pins);
+    let set = c_board::levels_from(*levels);
     let m = info::mangle_address(item, served, set_rows, rom_rows, address, set);
     if m.number != 0 {
         return m.number as u32;
@@ -154,8 +82,8 @@ pub extern "C" fn onerom_demangle(pins_number: u8, data: &[u8; 8], byte: u8, val
     ensures value { λ r. ⌜ now (value .exit) ≡ valueAfter r (demangleCall «pins_number» (now («data» .entry)) byte .value) (now (value .entry)) ⌝ }
 {
     let none = [0, 0, 0, 0, 0, 0, 0, 0, 0, 0, 0, 0, 0, 0, 0, 0];
-    let pins = pins_from(0, *data, none, [0, 0, 0, 0, 0, 0, 0]);
-    let item = pins_item(pins_number, pins);
+    let pins = c_board::pins_from(0, *data, none, [0, 0, 0, 0, 0, 0, 0]);
+    let item = c_board::pins_item(pins_number, pins);
     let r = info::demangle_byte(item, byte);
     if r.number != 0 {
         return r.number as u32;

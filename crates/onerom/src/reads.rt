@@ -1,6 +1,5 @@
 // ROM data, the byte reads, size and same set, for C and Rust.
 use c_report::OneromReport;
-use info::SdrrAddress;
 ghost use mathlib.Core.Path.{_≡_};
 ghost use mathlib.Core.Bool.{true, false};
 ghost use lib.ListN.{length};
@@ -8,7 +7,7 @@ ghost use Rattle.info.specs.Lent.{sizeCall};
 ghost use Rattle.info.specs.Same.{sameSet};
 ghost use Rattle.info.specs.Reads.{bufferLeft};
 ghost use Rattle.onerom.specs.Board.{valueAfter};
-ghost use Rattle.onerom.specs.Reads.{addressFrom, dataCall, byteCall};
+ghost use Rattle.onerom.specs.Reads.{dataCall, byteCall};
 
 #[no_mangle]
 pub extern "C" fn onerom_get_rom_set_size(
@@ -71,17 +70,6 @@ pub extern "C" fn onerom_read_rom_set_data(
     stored.number as u32
 }
 
-// 1 is a logical address with its levels, every other a raw offset.
-fn address_from(logical: u8, address: u32, levels: [u8; 5]) -> SdrrAddress
-    ensures { λ r. ⌜ r ≡ addressFrom logical address levels ⌝ }
-{
-    if logical == 1 {
-        let set = crate::levels_from(levels);
-        return SdrrAddress::Logical(address, set);
-    }
-    SdrrAddress::Raw(address)
-}
-
 #[no_mangle]
 pub extern "C" fn onerom_read_rom_byte_raw(
     image: &[u8],
@@ -102,7 +90,7 @@ pub extern "C" fn onerom_read_rom_byte_raw(
     ensures value { λ r. ⌜ now (value .exit) ≡ valueAfter r (byteCall false «flash_base» «cs0_base» report (now («set_rows» .entry)) (now («rom_rows» .entry)) set logical address (now (levels .entry)) (now (count .entry)) (now (image .entry)) .byte) (now (value .entry)) ⌝ }
 {
     let board = c_report::board_in(flash_base, cs0_base, report);
-    let at = address_from(logical, address, *levels);
+    let at = c_board::address_from(logical, address, *levels);
     let raw = rom_reads::read_rom_byte_raw(image, board, set_rows, rom_rows, set, at, *count);
     *count = raw.count;
     if raw.number != 0 {
@@ -132,7 +120,7 @@ pub extern "C" fn onerom_read_rom_byte_demangled(
     ensures value { λ r. ⌜ now (value .exit) ≡ valueAfter r (byteCall true «flash_base» «cs0_base» report (now («set_rows» .entry)) (now («rom_rows» .entry)) set logical address (now (levels .entry)) (now (count .entry)) (now (image .entry)) .byte) (now (value .entry)) ⌝ }
 {
     let board = c_report::board_in(flash_base, cs0_base, report);
-    let at = address_from(logical, address, *levels);
+    let at = c_board::address_from(logical, address, *levels);
     let shown = rom_reads::read_rom_byte_demangled(
         image,
         board,

@@ -1,9 +1,9 @@
 use mathlib.Core.Path.{refl}
 use borrow.Author.Tests.{eq-eqb, ne-eqb}
 use borrow.Author.Needs.{needs}
-use Rattle.onerom.proofs.reads.address_from.Statement.{statement}
-use Rattle.onerom.proofs.reads.address_from.Tie as tie
-use Rattle.onerom.proofs.reads.address_from.Reads as reads
+use Rattle.c_board.proofs.address_from.Statement.{statement}
+use Rattle.c_board.proofs.address_from.Tie as tie
+use Rattle.c_board.proofs.address_from.Reads as reads
 
 levels-from-requires : tie.Need-levels-from-requires
 levels-from-requires c κs = search needs

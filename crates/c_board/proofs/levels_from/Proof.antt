@@ -1,6 +1,6 @@
 use borrow.Author.Needs.{needs}
-use Rattle.onerom.proofs.levels_from.Statement.{statement}
-use Rattle.onerom.proofs.levels_from.Tie as tie
+use Rattle.c_board.proofs.levels_from.Statement.{statement}
+use Rattle.c_board.proofs.levels_from.Tie as tie
 
 array-read-level-of : tie.Need-array-read-level-of
 array-read-level-of c = search needs

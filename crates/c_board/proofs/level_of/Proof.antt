@@ -1,6 +1,6 @@
 use borrow.Author.Tests.{eq-eqb, ne-eqb}
-use Rattle.onerom.proofs.level_of.Statement.{statement}
-use Rattle.onerom.proofs.level_of.Tie as tie
+use Rattle.c_board.proofs.level_of.Statement.{statement}
+use Rattle.c_board.proofs.level_of.Tie as tie
 
 returns : tie.Need-returns
 returns c = rw (eq-eqb _ 1 (c .if1 .taken))

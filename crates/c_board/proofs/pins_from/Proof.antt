@@ -1,8 +1,8 @@
 use mathlib.Core.Path.{refl}
 use borrow.Author.Needs.{needs}
-use Rattle.onerom.specs.Board.{pinsFrom}
-use Rattle.onerom.proofs.pins_from.Statement.{statement}
-use Rattle.onerom.proofs.pins_from.Tie as tie
+use Rattle.c_board.specs.Board.{pinsFrom}
+use Rattle.c_board.proofs.pins_from.Statement.{statement}
+use Rattle.c_board.proofs.pins_from.Tie as tie
 
 array-read-t13 : tie.Need-array-read-t13
 array-read-t13 c = search needs

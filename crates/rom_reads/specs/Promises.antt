@@ -19,8 +19,8 @@ use Rattle.info.specs.History.{acceptedLengths, count-step, count-sums, count-f
 use Rattle.rom_reads.specs.declared.Board.{Board}
 use Rattle.rom_reads.specs.declared.ByteRead.{ByteRead}
 use Rattle.rom_reads.specs.Calls.{lentBy, byteOf}
-use Rattle.rom_reads.specs.Found.{beyond, setData, foundOf}
-use Rattle.rom_reads.specs.Steps.{read-beyond, found-stands, found-inside, data-accepted, by-address, byte-raw, byte-shown, stored-at, shown-value}
+use Rattle.rom_reads.specs.Found.{beyond, setData, foundOf, storedByte, shownFrom}
+use Rattle.rom_reads.specs.Steps.{read-beyond, found-stands, found-inside, data-accepted, by-address, byte-raw, byte-demangled, stored-at, shown-value}
 
 -- ROM data does not look at ROM rows: the statement of `read_rom_set_data`, which has none, holds with any
 pub no-rom-rows : (b : Board) (sets roms : List ℕ) (count set offset n : ℕ) (x : List ℕ)
@@ -73,15 +73,17 @@ module _ (flashBase cs0Base : ℕ) (l : Lent) (x : List ℕ) where
         by-test (beyond flashBase cs0Base (length x))
         (λ h. let z : _≡_ {A = ℕ} 1 0 = rw (read-beyond flashBase cs0Base l count x (byte set a false) h) at e in absurd (omega arith))
         (λ h.
-        let law = byte-raw flashBase cs0Base l count x set a h (baseAfter flashBase cs0Base (l .line)) refl (setData (l .served) (l .setWords) set) refl (physical l a) (sym (by-address l a)) in
-        ap (λ (b : ByteRead). b .byte) law
-        ∙ stored-at x (baseAfter flashBase cs0Base (l .line)) (setData (l .served) (l .setWords) set) (physical l a) count (ap (λ (b : ByteRead). b .number) (sym law) ∙ e))
+        let base = baseAfter flashBase cs0Base (l .line) in
+        let d = setData (l .served) (l .setWords) set in
+        let law = byte-raw flashBase cs0Base l count x set a h base refl d refl (physical l a) (sym (by-address l a)) (storedByte x base d (physical l a) count) refl in
+        ap (λ (b : ByteRead). b .byte) (sym law) ∙ stored-at x base d (physical l a) count (ap (λ (b : ByteRead). b .number) law ∙ e))
 
     pub accepted-demangled : byteOf (romRead flashBase cs0Base l count (byte set a true) x) .number ≡ 0
         → byteOf (romRead flashBase cs0Base l count (byte set a true) x) .byte ≡ demangleByte (l .pins) (byteOf (romRead flashBase cs0Base l count (byte set a false) x) .byte) .value
     accepted-demangled e =
-        let law = byte-shown flashBase cs0Base l count x set a in
-        ap (λ (b : ByteRead). b .byte) law ∙ shown-value (l .pins) (byteOf (romRead flashBase cs0Base l count (byte set a false) x)) count (ap (λ (b : ByteRead). b .number) (sym law) ∙ e)
+        let raw = byteOf (romRead flashBase cs0Base l count (byte set a false) x) in
+        let law = byte-demangled flashBase cs0Base l count x set a raw refl (shownFrom (l .pins) raw count) refl in
+        ap (λ (b : ByteRead). b .byte) (sym law) ∙ shown-value (l .pins) raw count (ap (λ (b : ByteRead). b .number) law ∙ e)
 
   -- ---- the served count over any history since opening: the accepted lengths, within 32 bits
 

@@ -256,14 +256,17 @@ by-address l (SdrrAddress.Logical address levels) = refl
 module _ (flashBase cs0Base : ℕ) (l : Lent) (count : ℕ) (x : List ℕ) (set : ℕ) (a : SdrrAddress) where
   -- a raw byte as the code has read it: the base in force, what it needs of the set, and the mangled address
   pub byte-raw : beyond flashBase cs0Base (length x) ≡ false → (base : ℕ) → base ≡ baseAfter flashBase cs0Base (l .line) → (d : SetData) → d ≡ setData (l .served) (l .setWords) set
-      → (m : Mangled) → m ≡ physicalBy (l .pins) (l .served) (l .setWords) (l .romWords) a → byteOf (romRead flashBase cs0Base l count (byte set a false) x) ≡ storedByte x base d m count
+      → (m : Mangled) → m ≡ physicalBy (l .pins) (l .served) (l .setWords) (l .romWords) a → (r : ByteRead) → r ≡ storedByte x base d m count
+      → r ≡ byteOf (romRead flashBase cs0Base l count (byte set a false) x)
   unfolding storedP
-  byte-raw within base in-force d of-set m mangled =
-      ap byteOf (read-within flashBase cs0Base l count x (byte set a false) within)
+  byte-raw within base in-force d of-set m mangled r e =
+      e
+      ∙ sym
+      (ap byteOf (read-within flashBase cs0Base l count x (byte set a false) within)
       ∙ finish-raw l count set a _
-      ∙ rw (in-force, of-set, mangled, by-address l a) (stored-run x (baseAfter flashBase cs0Base (l .line)) l set (physical l a) count)
+      ∙ rw (in-force, of-set, mangled, by-address l a) (stored-run x (baseAfter flashBase cs0Base (l .line)) l set (physical l a) count))
 
-  pub byte-shown : byteOf (romRead flashBase cs0Base l count (byte set a true) x) ≡ shownFrom (l .pins) (byteOf (romRead flashBase cs0Base l count (byte set a false) x)) count
+  byte-shown : byteOf (romRead flashBase cs0Base l count (byte set a true) x) ≡ shownFrom (l .pins) (byteOf (romRead flashBase cs0Base l count (byte set a false) x)) count
   unfolding storedP shownFrom
   byte-shown =
       by-test (beyond flashBase cs0Base (length x))
@@ -272,6 +275,11 @@ module _ (flashBase cs0Base : ℕ) (l : Lent) (count : ℕ) (x : List ℕ) (set 
       ap byteOf (read-within flashBase cs0Base l count x (byte set a true) h)
       ∙ finish-shown l count set a _
       ∙ ap (λ (r : ByteRead). shownFrom (l .pins) r count) (sym (ap byteOf (read-within flashBase cs0Base l count x (byte set a false) h) ∙ finish-raw l count set a _)))
+
+  -- a demangled byte as the code has it, from the raw one
+  pub byte-demangled : (raw : ByteRead) → raw ≡ byteOf (romRead flashBase cs0Base l count (byte set a false) x) → (r : ByteRead) → r ≡ shownFrom (l .pins) raw count
+      → r ≡ byteOf (romRead flashBase cs0Base l count (byte set a true) x)
+  byte-demangled raw v r e = e ∙ rw v (sym byte-shown)
 
 -- ---- a byte, demangled
 

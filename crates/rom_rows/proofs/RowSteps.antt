@@ -18,7 +18,8 @@ use Rattle.text.specs.declared.Text.{Text}
 use Rattle.text.specs.Text.{refused, textP}
 use Rattle.walk.specs.Walk.{noName, nameAt, Rom, RomSet, romOf, romsOf}
 use Rattle.walk.specs.Names.{nameP}
-use Rattle.walk.specs.Passes.{onFrom, infoPointer, romAt, romsAt, setOf, setAt, strideOf, after, setsAt}
+use Rattle.set_header.specs.SetHeader.{onFrom, infoPointer, strideOf}
+use Rattle.walk.specs.Passes.{romAt, romsAt, setOf, setAt, after, setsAt}
 use Rattle.rom_rows.specs.RowWords.{setWords, romWords, set-words, rom-words, namedRow, namedRows, named-append, named-row-length, named-length, rowsFrom}
 use Rattle.walk.specs.PassLaws.{roms-length}
 
@@ -105,9 +106,9 @@ rows-cons : (first : ℕ) (s : List ℕ) (roms : List Rom) (ss : List RomSet) �
 unfolding rowsFrom setOf
 rows-cons first s roms ss = ap (λ (l : List ℕ). l ++ rowsFrom (first + u8At s 12) ss) (set-words first s roms)
 
--- a set as the code has read it: its part of the image, its count of ROMs (twice), and its stride
+-- a set as the code has read it: its part of the image, its count of ROMs and its stride
 module _ (x : List ℕ) (base : ℕ) (filenames long : Bool) (address left : ℕ) (h : left ≡ 0 → ⊥) (s : List ℕ) (v : s ≡ onFrom x base address)
-    (n m d : ℕ) (e : n ≡ u8At s 12) (f : m ≡ n) (g : d ≡ strideOf long s) where
+    (n d : ℕ) (e : n ≡ u8At s 12) (g : d ≡ strideOf long s) where
   split : setsAt x base filenames long address left
       ≡ setOf s (romsAt x base filenames (u32At s 8) n) ∷ setsAt x base filenames long (address + d) (left - 1)
   unfolding setsAt setAt
@@ -118,21 +119,21 @@ module _ (x : List ℕ) (base : ℕ) (filenames long : Bool) (address left : ℕ
       go (suc k) i = rw sub-one
 
   pub sets-write : (l : List ℕ) (at first : ℕ) (r k : List ℕ) → r ≡ setWords first s → k ≡ sets l at r
-      → sets k (at + 8) (rowsFrom (first + m) (setsAt x base filenames long (address + d) (left - 1)))
+      → sets k (at + 8) (rowsFrom (first + n) (setsAt x base filenames long (address + d) (left - 1)))
       ≡ sets l at (rowsFrom first (setsAt x base filenames long address left))
   sets-write l at first r k i j =
       let rest = setsAt x base filenames long (address + d) (left - 1) in
       let eight : length r ≡ 8 = ap length i ∙ set-words-length first s in
-      let c : first + m ≡ first + u8At s 12 = omega arith in
+      let c : first + n ≡ first + u8At s 12 = omega arith in
       rw (split, rows-cons first s (romsAt x base filenames (u32At s 8) n) rest, ← i, c, j) (rw eight at (sym (sets-append l r (rowsFrom (first + u8At s 12) rest) at)))
 
   pub all-write : (l : List ℕ) (first t : ℕ) (k : List ℕ) → t ≡ u32At s 8 → k ≡ sets l (7 * first) (namedRows x base (romsAt x base filenames t n))
-      → sets k (7 * (first + m)) (namedRows x base (romsOf (setsAt x base filenames long (address + d) (left - 1))))
+      → sets k (7 * (first + n)) (namedRows x base (romsOf (setsAt x base filenames long (address + d) (left - 1))))
       ≡ sets l (7 * first) (namedRows x base (romsOf (setsAt x base filenames long address left)))
   unfolding romsOf setOf
   all-write l first t k i j =
       let rest = romsOf (setsAt x base filenames long (address + d) (left - 1)) in
       let roms = romsAt x base filenames (u32At s 8) n in
       let size : length (namedRows x base roms) ≡ 7 * n = named-length x base roms ∙ rw (roms-length x base filenames (u32At s 8) n) in
-      let c : 7 * (first + m) ≡ 7 * first + length (namedRows x base roms) = omega arith in
+      let c : 7 * (first + n) ≡ 7 * first + length (namedRows x base roms) = omega arith in
       rw (split, named-append x base roms rest, c, j, i) (sym (sets-append l (namedRows x base roms) (namedRows x base rest) (7 * first)))

@@ -15,7 +15,8 @@ use Rattle.walk.specs.Walk.{Rom, RomSet, romOf}
 use Rattle.walk.specs.Rows.{romWidth, setRow, countsOf, setRowsAfter, setRows, romFront, nameWords, romRow, romRows}
 use Rattle.walk.specs.Names.{nameP, namesP}
 use Rattle.walk.specs.RowLaws.{rom-row-length}
-use Rattle.walk.specs.Passes.{configOf, overridesOf, setOf}
+use Rattle.set_header.specs.SetHeader.{configOf, overridesOf}
+use Rattle.walk.specs.Passes.{setOf}
 
 -- the words of a set's row and of a ROM's, from the record's own bytes
 unfoldable pub setWords : ℕ → List ℕ → List ℕ

@@ -33,11 +33,11 @@ fn set_row(first: u32, s: &[u8]) -> [u32; 8]
         le::u32_at(s, 0),
         le::u32_at(s, 4),
         first,
-        walk::wide(le::u8_at(s, 12)),
-        walk::wide(le::u8_at(s, 13)),
-        walk::wide(le::u8_at(s, 14)),
-        walk::serve_config(s),
-        walk::firmware_overrides(s),
+        le::u8_at(s, 12) as u32,
+        le::u8_at(s, 13) as u32,
+        le::u8_at(s, 14) as u32,
+        set_header::serve_config(s),
+        set_header::firmware_overrides(s),
     ]
 }
 
@@ -46,13 +46,13 @@ fn rom_row(s: &[u8], name: Text) -> [u32; 7]
     ensures { λ r. ⌜ r ≡ romWords (now (s .entry)) name ⌝ }
 {
     [
-        walk::wide(le::u8_at(s, 0)),
-        walk::wide(le::u8_at(s, 1)),
-        walk::wide(le::u8_at(s, 2)),
-        walk::wide(le::u8_at(s, 3)),
+        le::u8_at(s, 0) as u32,
+        le::u8_at(s, 1) as u32,
+        le::u8_at(s, 2) as u32,
+        le::u8_at(s, 3) as u32,
         name.offset,
         name.length,
-        walk::wide(name.number),
+        name.number as u32,
     ]
 }
 
@@ -76,7 +76,7 @@ fn rom_name(image: &[u8], base: u32, filenames: bool, s: &[u8]) -> Text
 fn named_row(image: &[u8], base: u32, filenames: bool, entry: u64) -> [u32; 7]
     ensures { λ r. ⌜ r ≡ namedRow (now (image .entry)) base (romAt (now (image .entry)) base filenames entry) ⌝ }
 {
-    let s = walk::image_from(image, base, walk::info_ptr(image, base, entry) as u64);
+    let s = set_header::image_from(image, base, set_header::info_ptr(image, base, entry) as u64);
     rom_row(s, rom_name(image, base, filenames, s))
 }
 
@@ -125,7 +125,7 @@ fn write_rom_sets(
     let mut at: usize = 0;
     let mut first: u32 = 0;
     while left != 0 {
-        let s = walk::image_from(image, base, address);
+        let s = set_header::image_from(image, base, address);
         let n = le::u8_at(s, 12);
         let row = set_row(first, s);
         put_words(set_rows, at, &row);
@@ -139,8 +139,8 @@ fn write_rom_sets(
             table,
             n,
         );
-        first += walk::wide(n);
-        address += walk::set_stride(long, s);
+        first += n as u32;
+        address += set_header::set_stride(long, s);
         at += 8;
         left -= 1;
     }

@@ -4,14 +4,12 @@ use Prim.Native.Nat.{ℕ, zero, suc, _+_, _-_, _≤_, _<_}
 use native.Mathlib.Omega.{arith}
 use native.Mathlib.Numerals.{sub-one}
 use mathlib.Core.Path.{_≡_, refl, sym, _∙_}
-use mathlib.Core.Bool.{Bool, true, false, not, _&&_, _||_}
-use mathlib.Core.List.{List, []}
-use lib.Dec.{eqb, ltb}
-use lib.ListN.{length, take, drop, drop-of-length-le}
+use mathlib.Core.Bool.{Bool, true, false, _||_}
+use mathlib.Core.List.{List}
+use lib.Dec.{ltb}
 use borrow.Author.Tests.{eq-eqb, ne-eqb, lt-ltb, le-ltb}
 use Rattle.le.specs.Le.{u8At, u32At}
 use Rattle.prog.specs.Prog.{canRead, run}
-use Rattle.prog.specs.Read.{onward}
 use Rattle.walk.specs.Walk.{infoSize, walkP}
 use Rattle.header.specs.declared.SdrrInfoFields.{SdrrInfoFields}
 use Rattle.version.specs.Version.{from060}
@@ -19,22 +17,7 @@ use Rattle.header.specs.Header.{hasFilenames}
 use Rattle.walk.specs.declared.Walked.{Walked}
 use Rattle.walk.specs.PassLaws.{romsIn, total-none}
 use Rattle.walk.specs.Judged.{walked, judgedOf, walked-good, walked-bad, walk-judged}
-use Rattle.walk.specs.Passes.{orNext, onFrom, infoNumber, infoPointer, romNumber, romsNumber, tableNumber, pointed, pointedNumber, configOf, overridesOf, headerNumber, partNumber, setNumber, strideOf, after, setsNumber, walkNumber}
-
--- ---- the image from an address on
-
-module _ (x : List ℕ) (base address : ℕ) where
-  pub from-below : address < base → x ≡ onFrom x base address
-  unfolding onFrom
-  from-below h = let z : address - base ≡ 0 = omega arith in rw z
-
-  pub from-past : length x ≤ address - base → [] ≡ onFrom x base address
-  unfolding onFrom
-  from-past h = sym (drop-of-length-le x h)
-
-  pub from-inside : take (length x - (address - base)) (drop (address - base) x) ≡ onFrom x base address
-  unfolding onFrom
-  from-inside = onward (address - base) x
+use Rattle.walk.specs.Passes.{orNext, onFrom, infoNumber, infoPointer, romNumber, romsNumber, tableNumber, pointedNumber, configOf, overridesOf, headerNumber, partNumber, setNumber, strideOf, after, setsNumber, walkNumber}
 
 -- ---- one part after the other
 
@@ -109,15 +92,6 @@ module _ (x : List ℕ) (base : ℕ) (filenames : Bool) (count table : ℕ) wher
   table-judged e h n v = rw (ne-eqb count 0 e, le-ltb table base h) v
 
 -- ---- a set
-
-module _ (counts : Bool) (pointer : ℕ) (b : Bool) (v : b ≡ (counts && (not (eqb pointer 0) && not (eqb pointer 4294967295)))) where
-  pub pointed-there : b ≡ true → pointer ≡ pointed counts pointer
-  unfolding pointed
-  pointed-there e = rw (← v, e)
-
-  pub pointed-absent : b ≡ false → 0 ≡ pointed counts pointer
-  unfolding pointed
-  pointed-absent e = rw (← v, e)
 
 module _ (x : List ℕ) (base address : ℕ) where
   pub pointed-none : address ≡ 0 → 0 ≡ pointedNumber x base address

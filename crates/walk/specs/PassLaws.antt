@@ -1,23 +1,14 @@
--- How many sets and ROMs the passes go through, and how far.
+-- How many sets and ROMs the passes go through.
 -- Assumes nothing.
-use Prim.Native.Nat.{ℕ, zero, suc, _+_, _-_, _≤_}
-use native.Mathlib.Omega.{arith}
+use Prim.Native.Nat.{ℕ, zero, suc, _+_, _-_}
 use native.Mathlib.Numerals.{sub-one}
 use mathlib.Core.Path.{_≡_, refl, ap, _∙_}
-use mathlib.Core.Bool.{Bool, true, false, _&&_}
+use mathlib.Core.Bool.{Bool}
 use mathlib.Core.List.{List}
 use lib.ListN.{length, length-append}
-use Rattle.le.specs.Choice.{pick}
 use Rattle.le.specs.Le.{u8At, u32At}
-use Rattle.walk.specs.Walk.{extraByte, romsOf}
+use Rattle.walk.specs.Walk.{romsOf}
 use Rattle.walk.specs.Passes.{onFrom, romsAt, partRoms, setOf, setAt, strideOf, after, setsAt}
-
-pub stride-bound : (long : Bool) (s : List ℕ) → strideOf long s ≤ 64
-stride-bound long s = go (long && extraByte s)
-  where
-    go : (b : Bool) → 16 + pick b 48 0 ≤ 64
-    go true = omega arith
-    go false = omega arith
 
 pub roms-length : (x : List ℕ) (base : ℕ) (filenames : Bool) (entry n : ℕ) → length (romsAt x base filenames entry n) ≡ n
 unfolding romsAt

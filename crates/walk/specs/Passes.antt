@@ -1,22 +1,19 @@
 -- The walk as its two passes take it: the number that judging a part gives, 0 accepted, and what an accepted part holds, straight from the image.
 -- `Says` has it that this is what the walk's programs answer.
-use Prim.Native.Nat.{ℕ, zero, suc, _+_, _-_}
-use mathlib.Core.Bool.{Bool, not, _&&_, _||_}
+use Prim.Native.Nat.{ℕ, zero, suc, _+_}
+use mathlib.Core.Bool.{Bool, _||_}
 use mathlib.Core.List.{List, [], _∷_}
 use lib.Dec.{ltb, eqb}
-use lib.ListN.{drop}
 use Rattle.le.specs.Choice.{pick}
 use Rattle.le.specs.Le.{u8At, u32At}
 use Rattle.prog.specs.Prog.{canRead}
-use Rattle.walk.specs.Walk.{Rom, RomSet, romOf, infoSize, extraByte}
+use Rattle.walk.specs.Walk.{Rom, RomSet, romOf, infoSize}
+pub use Rattle.set_header.specs.SetHeader.{infoPointer, configOf, overridesOf, strideOf}
+unfoldable pub use Rattle.set_header.specs.SetHeader.{onFrom, pointed}
 
 -- a number, or the next one where it is 0
 abbrev pub orNext : ℕ → ℕ → ℕ
 orNext n m = pick (eqb n 0) m n
-
--- the image from an address on
-unfoldable pub onFrom : List ℕ → ℕ → ℕ → List ℕ
-onFrom x base address = drop (address - base) x
 
 -- ---- a ROM
 
@@ -24,10 +21,6 @@ onFrom x base address = drop (address - base) x
 unfoldable pub infoNumber : List ℕ → ℕ
 infoNumber s =
     pick (ltb 33 (u8At s 0)) 42 (pick (ltb 2 (u8At s 1) || (ltb 2 (u8At s 2) || ltb 2 (u8At s 3))) 43 0)
-
--- the pointer in an entry of the table
-abbrev pub infoPointer : List ℕ → ℕ → ℕ → ℕ
-infoPointer x base entry = u32At (onFrom x base entry) 0
 
 unfoldable pub romNumber : List ℕ → ℕ → Bool → ℕ → ℕ
 romNumber x base filenames entry =
@@ -53,18 +46,8 @@ tableNumber x base filenames count table =
 
 -- ---- a set
 
--- a pointer that counts and is there, or 0
-unfoldable pub pointed : Bool → ℕ → ℕ
-pointed counts pointer = pick (counts && (not (eqb pointer 0) && not (eqb pointer 4294967295))) pointer 0
-
 unfoldable pub pointedNumber : List ℕ → ℕ → ℕ → ℕ
 pointedNumber x base address = pick (eqb address 0) 0 (pick (canRead x base address 64) 0 2)
-
-abbrev pub configOf : List ℕ → ℕ
-configOf s = pointed (extraByte s) (u32At s 16)
-
-abbrev pub overridesOf : List ℕ → ℕ
-overridesOf s = pointed (extraByte s) (u32At s 20)
 
 -- 40, 41, 2: a set's own bytes, config and overrides
 unfoldable pub headerNumber : List ℕ → ℕ → List ℕ → ℕ
@@ -98,10 +81,6 @@ setNumber x base filenames address = pick (canRead x base address 64) (partNumbe
 
 unfoldable pub setAt : List ℕ → ℕ → Bool → ℕ → RomSet
 setAt x base filenames address = setOf (onFrom x base address) (partRoms x base filenames (onFrom x base address))
-
--- 16, or 64 where the longer stride is known and the extra byte is 1
-abbrev pub strideOf : Bool → List ℕ → ℕ
-strideOf long s = 16 + pick (long && extraByte s) 48 0
 
 -- the address after a set's
 abbrev pub after : List ℕ → ℕ → Bool → ℕ → ℕ

@@ -9,6 +9,7 @@ use Rattle.prog.specs.Prog.{Prog, done, fetch, _>>=_}
 use Rattle.header.specs.declared.SdrrInfoFields.{SdrrInfoFields}
 use Rattle.version.specs.Version.{from060}
 use Rattle.header.specs.Header.{hasFilenames}
+pub use Rattle.set_header.specs.SetHeader.{extraByte}
 
 -- ---- what the walk finds
 
@@ -96,9 +97,6 @@ pointedP base counts pointer =
     pick (counts && (not (eqb pointer 0) && not (eqb pointer 4294967295)))
     (fetch base pointer 64 (refuse 2) λ s. done (found pointer))
     (done (found 0))
-
-abbrev pub extraByte : List ℕ → Bool
-extraByte s = eqb (u8At s 15) 1
 
 -- data pointer 0, size 4, ROMs pointer 8, ROM count 12, serve 13, multi-ROM state 14, serve config pointer 16, overrides pointer 20.
 -- 40: serve (0..2). 41: state (0..2). 2: config, then overrides. Then the ROMs.

@@ -1,10 +1,9 @@
-// The walk over ROM sets and ROM infos (parsing.rs `read_rom_sets`, `read_rom_infos`), the pass that only judges, and what both passes
-// read of the image.
+// The walk over ROM sets and ROM infos (parsing.rs `read_rom_sets`, `read_rom_infos`), the pass that only judges.
 ghost use mathlib.Core.Path.{_≡_};
 ghost use lib.ListN.{length};
 ghost use Rattle.prog.specs.Prog.{run};
 ghost use Rattle.walk.specs.Walk.{infoSize, romsOf, walkP};
-ghost use Rattle.walk.specs.Passes.{onFrom, infoNumber, infoPointer, romNumber, romsNumber, tableNumber, pointed, pointedNumber, configOf, overridesOf, headerNumber, partNumber, setNumber, strideOf, setsNumber, setsAt};
+ghost use Rattle.walk.specs.Passes.{infoNumber, romNumber, romsNumber, tableNumber, pointedNumber, headerNumber, partNumber, setNumber, setsNumber, setsAt};
 ghost use Rattle.walk.specs.Judged.{walked, judgedOf};
 use header::SdrrInfoFields;
 
@@ -14,21 +13,6 @@ pub struct Walked {
     pub rom_count: u32,
 }
 
-// The image from an address on: all of it below the base, and nothing past its end.
-pub fn image_from(image: &[u8], base: u32, address: u64) -> &[u8]
-    ensures { λ r. ⌜ now r ≡ onFrom (now (image .entry)) base address ⌝ }
-{
-    let from = base as u64;
-    if address < from {
-        return image;
-    }
-    let offset = (address - from) as usize;
-    if image.len() < offset {
-        return &image[..0];
-    }
-    &image[offset..]
-}
-
 // ---- ROM infos
 
 // With filenames a ROM info is 8 bytes, without 4.
@@ -36,13 +20,6 @@ fn info_size(filenames: bool) -> usize
     ensures { λ r. ⌜ r ≡ infoSize filenames ⌝ }
 {
     if filenames { 8 } else { 4 }
-}
-
-// The pointer in an entry of the table.
-pub fn info_ptr(image: &[u8], base: u32, entry: u64) -> u32
-    ensures { λ r. ⌜ r ≡ infoPointer (now (image .entry)) base entry ⌝ }
-{
-    le::u32_at(image_from(image, base, entry), 0)
 }
 
 // What a ROM info's own bytes say.
@@ -65,11 +42,11 @@ fn judge_rom(image: &[u8], base: u32, filenames: bool, entry: u64) -> u8
     if !text::can_read(image, base, entry, 4) {
         return 2;
     }
-    let ptr = info_ptr(image, base, entry);
+    let ptr = set_header::info_ptr(image, base, entry);
     if !text::can_read(image, base, ptr as u64, info_size(filenames)) {
         return 2;
     }
-    judge_rom_info(image_from(image, base, ptr as u64))
+    judge_rom_info(set_header::image_from(image, base, ptr as u64))
 }
 
 // So many ROMs, whose pointers stand in a table.
@@ -103,28 +80,6 @@ fn judge_rom_infos(image: &[u8], base: u32, filenames: bool, table: u32, count: 
 
 // ---- ROM sets
 
-// A pointer that counts and is there, or 0.
-fn pointed_at(counts: bool, ptr: u32) -> u32
-    ensures { λ r. ⌜ r ≡ pointed counts ptr ⌝ }
-{
-    if le::both(counts, le::both(ptr != 0, ptr != 4294967295)) {
-        return ptr;
-    }
-    0
-}
-
-pub fn serve_config(s: &[u8]) -> u32
-    ensures { λ r. ⌜ r ≡ configOf (now (s .entry)) ⌝ }
-{
-    pointed_at(le::u8_at(s, 15) == 1, le::u32_at(s, 16))
-}
-
-pub fn firmware_overrides(s: &[u8]) -> u32
-    ensures { λ r. ⌜ r ≡ overridesOf (now (s .entry)) ⌝ }
-{
-    pointed_at(le::u8_at(s, 15) == 1, le::u32_at(s, 20))
-}
-
 // What a set's config or overrides address must yield.
 fn judge_pointed(image: &[u8], base: u32, address: u32) -> u8
     ensures { λ r. ⌜ r ≡ pointedNumber (now (image .entry)) base address ⌝ }
@@ -148,11 +103,11 @@ fn judge_set_header(image: &[u8], base: u32, s: &[u8]) -> u8
     if 2 < le::u8_at(s, 14) {
         return 41;
     }
-    let n = judge_pointed(image, base, serve_config(s));
+    let n = judge_pointed(image, base, set_header::serve_config(s));
     if n != 0 {
         return n;
     }
-    judge_pointed(image, base, firmware_overrides(s))
+    judge_pointed(image, base, set_header::firmware_overrides(s))
 }
 
 // The set whose part of the image is s.
@@ -173,23 +128,12 @@ fn judge_set(image: &[u8], base: u32, filenames: bool, address: u64) -> u8
     if !text::can_read(image, base, address, 64) {
         return 2;
     }
-    judge_part(image, base, filenames, image_from(image, base, address))
-}
-
-// The stride is 16, plus 48 where the longer one is known and the extra byte is 1.
-pub fn set_stride(long: bool, s: &[u8]) -> u64
-    ensures { λ r. ⌜ r ≡ strideOf long (now (s .entry)) ⌝ }
-{
-    if le::both(long, le::u8_at(s, 15) == 1) {
-        return 64;
-    }
-    16
-}
-
-pub fn wide(b: u8) -> u32
-    ensures { λ r. ⌜ r ≡ b ⌝ }
-{
-    b as u32
+    judge_part(
+        image,
+        base,
+        filenames,
+        set_header::image_from(image, base, address),
+    )
 }
 
 // So many sets, one after the other; the first stands at a pointer.
@@ -207,9 +151,9 @@ fn judge_sets(image: &[u8], base: u32, filenames: bool, long: bool, ptr: u32, co
                 rom_count: 0,
             };
         }
-        let s = image_from(image, base, address);
-        roms += wide(le::u8_at(s, 12));
-        address += set_stride(long, s);
+        let s = set_header::image_from(image, base, address);
+        roms += le::u8_at(s, 12) as u32;
+        address += set_header::set_stride(long, s);
         left -= 1;
     }
     Walked {

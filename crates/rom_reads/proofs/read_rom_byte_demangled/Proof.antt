@@ -1,6 +1,6 @@
 use borrow.Author.Needs.{needs}
 use Rattle.rom_reads.specs.Calls.{lentBy}
-use Rattle.rom_reads.specs.Steps.{byte-shown}
+use Rattle.rom_reads.specs.Steps.{byte-demangled}
 use Rattle.rom_reads.proofs.read_rom_byte_demangled.Statement.{statement}
 use Rattle.rom_reads.proofs.read_rom_byte_demangled.Tie as tie
 
@@ -14,8 +14,8 @@ returns : tie.Need-returns
 returns c =
     let raw = c .before .before in
     let entry = raw .before .before .before .before .args in
-    let l = lentBy (entry .board) (entry .set-rows .now) (entry .rom-rows .now) in
-    rw (byte-shown (entry .board .«flash_base») (entry .board .«cs0_base») l (entry .count) (entry .image .now) (entry .set) (entry .address), ← raw .read-rom-byte-raw .ensures) (c .shown-byte .ensures)
+    byte-demangled (entry .board .«flash_base») (entry .board .«cs0_base») (lentBy (entry .board) (entry .set-rows .now) (entry .rom-rows .now)) (entry .count) (entry .image .now) (entry .set) (entry .address)
+    (raw .read-rom-byte-raw .result) (raw .read-rom-byte-raw .ensures) (c .shown-byte .result) (c .shown-byte .ensures)
 
 pub read-rom-byte-demangled-spec : {M : Type 1} → statement M
 read-rom-byte-demangled-spec = tie.close (tie.spec read-rom-byte-raw-requires shown-byte-requires returns)

@@ -40,10 +40,9 @@ returns-2 c =
     let m = base .before in
     let inside = m .before .before in
     let entry = inside .before .before .before .before .before .args in
-    c .stored-byte .ensures
-    ∙ sym
-    (byte-raw (entry .board .«flash_base») (entry .board .«cs0_base») (lentBy (entry .board) (entry .set-rows .now) (entry .rom-rows .now)) (entry .count) (entry .image .now) (entry .set) (entry .address)
-    (sym (inside .before .beyond-window .ensures) ∙ inside .if1 .left) (base .base-after .result) (base .base-after .ensures) (set .set-data .result) (set .set-data .ensures) (m .physical-address .result) (m .physical-address .ensures))
+    byte-raw (entry .board .«flash_base») (entry .board .«cs0_base») (lentBy (entry .board) (entry .set-rows .now) (entry .rom-rows .now)) (entry .count) (entry .image .now) (entry .set) (entry .address)
+    (sym (inside .before .beyond-window .ensures) ∙ inside .if1 .left) (base .base-after .result) (base .base-after .ensures) (set .set-data .result) (set .set-data .ensures) (m .physical-address .result) (m .physical-address .ensures)
+    (c .stored-byte .result) (c .stored-byte .ensures)
 
 pub read-rom-byte-raw-spec : {M : Type 1} → statement M
 read-rom-byte-raw-spec =

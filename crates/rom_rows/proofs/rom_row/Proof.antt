@@ -6,29 +6,29 @@ use Rattle.rom_rows.proofs.rom_row.Tie as tie
 u8-at-requires : tie.Need-u8-at-requires
 u8-at-requires c κs = search needs
 
-wide-requires : tie.Need-wide-requires
-wide-requires c κs = search needs
+cast-t4 : tie.Need-cast-t4
+cast-t4 c = search needs
 
 u8-at-requires-2 : tie.Need-u8-at-requires-2
 u8-at-requires-2 c κs = search needs
 
-wide-requires-2 : tie.Need-wide-requires-2
-wide-requires-2 c κs = search needs
+cast-t6 : tie.Need-cast-t6
+cast-t6 c = search needs
 
 u8-at-requires-3 : tie.Need-u8-at-requires-3
 u8-at-requires-3 c κs = search needs
 
-wide-requires-3 : tie.Need-wide-requires-3
-wide-requires-3 c κs = search needs
+cast-t8 : tie.Need-cast-t8
+cast-t8 c = search needs
 
 u8-at-requires-4 : tie.Need-u8-at-requires-4
 u8-at-requires-4 c κs = search needs
 
-wide-requires-4 : tie.Need-wide-requires-4
-wide-requires-4 c κs = search needs
+cast-t10 : tie.Need-cast-t10
+cast-t10 c = search needs
 
-wide-requires-5 : tie.Need-wide-requires-5
-wide-requires-5 c κs = search needs
+cast-t11 : tie.Need-cast-t11
+cast-t11 c = search needs
 
 returns : tie.Need-returns
 unfolding romWords
@@ -39,12 +39,12 @@ rom-row-spec =
     tie.close
     (tie.spec
     u8-at-requires
-    wide-requires
+    cast-t4
     u8-at-requires-2
-    wide-requires-2
+    cast-t6
     u8-at-requires-3
-    wide-requires-3
+    cast-t8
     u8-at-requires-4
-    wide-requires-4
-    wide-requires-5
+    cast-t10
+    cast-t11
     returns)

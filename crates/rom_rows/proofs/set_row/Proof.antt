@@ -12,20 +12,20 @@ u32-at-requires-2 c κs = search needs
 u8-at-requires : tie.Need-u8-at-requires
 u8-at-requires c κs = search needs
 
-wide-requires : tie.Need-wide-requires
-wide-requires c κs = search needs
+cast-t6 : tie.Need-cast-t6
+cast-t6 c = search needs
 
 u8-at-requires-2 : tie.Need-u8-at-requires-2
 u8-at-requires-2 c κs = search needs
 
-wide-requires-2 : tie.Need-wide-requires-2
-wide-requires-2 c κs = search needs
+cast-t8 : tie.Need-cast-t8
+cast-t8 c = search needs
 
 u8-at-requires-3 : tie.Need-u8-at-requires-3
 u8-at-requires-3 c κs = search needs
 
-wide-requires-3 : tie.Need-wide-requires-3
-wide-requires-3 c κs = search needs
+cast-t10 : tie.Need-cast-t10
+cast-t10 c = search needs
 
 serve-config-requires : tie.Need-serve-config-requires
 serve-config-requires c κs = search needs
@@ -44,11 +44,11 @@ set-row-spec =
     u32-at-requires
     u32-at-requires-2
     u8-at-requires
-    wide-requires
+    cast-t6
     u8-at-requires-2
-    wide-requires-2
+    cast-t8
     u8-at-requires-3
-    wide-requires-3
+    cast-t10
     serve-config-requires
     firmware-overrides-requires
     returns)

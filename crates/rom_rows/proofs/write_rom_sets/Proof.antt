@@ -5,10 +5,12 @@ use lib.Seq.{sets}
 use lib.ListN.{length}
 use borrow.Author.Needs.{needs}
 use Rattle.rom_rows.specs.RowWords.{rowsFrom, namedRows}
-use Rattle.walk.specs.Passes.{setsAt, strideOf}
+use Rattle.set_header.specs.SetHeader.{strideOf}
+use Rattle.walk.specs.Passes.{setsAt}
 use Rattle.walk.specs.Walk.{romsOf}
 use Rattle.le.specs.Le.{u8At}
-use Rattle.walk.specs.PassLaws.{stride-bound, romsIn, total-step}
+use Rattle.set_header.specs.Laws.{stride-bound}
+use Rattle.walk.specs.PassLaws.{romsIn, total-step}
 use Rattle.rom_rows.proofs.RowSteps.{sets-written, all-written, sets-write, all-write}
 use Rattle.rom_rows.proofs.write_rom_sets.Statement.{statement}
 use Rattle.rom_rows.proofs.write_rom_sets.Tie as tie
@@ -62,8 +64,8 @@ write-roms-requires c κs =
     let t = total-step (a .image .now) (a .base) (a .filenames) (a .long) (p .address) (p .left) (i .before .loop-test .taken) (i .image-from .result .now) (i .image-from .ensures) in
     omega (arith, t, p .inv .3, c .before .before .before .before .before .before .before .before .u8-at .ensures)
 
-wide-requires : tie.Need-wide-requires Inv-loop μ-loop
-wide-requires c κs = search needs
+cast-first : tie.Need-cast-first Inv-loop μ-loop
+cast-first c = search needs
 
 add-first : tie.Need-add-first Inv-loop μ-loop
 add-first c = omega arith
@@ -73,7 +75,7 @@ set-stride-requires c κs = search needs
 
 add-address : tie.Need-add-address Inv-loop μ-loop
 add-address c =
-    let i = c .before .before .before .before .before .before .before .before .before .before .before .before .before .before in
+    let i = c .before .before .before .before .before .before .before .before .before .before .before .before .before in
     omega (arith, stride-bound (i .before .before .before .before .before .before .args .long) (i .image-from .result .now))
 
 add-at : tie.Need-add-at Inv-loop μ-loop
@@ -87,7 +89,7 @@ loop-less c = omega arith
 
 loop-again : tie.Need-loop-again Inv-loop μ-loop
 loop-again c =
-    let w = c .before .before .before .before in
+    let w = c .before .before .before in
     let q = w .before .before .before .before .before in
     let r = q .before .before .before in
     let i = r .before .before in
@@ -97,7 +99,6 @@ loop-again c =
     let s = i .image-from .result .now in
     let v = i .image-from .ensures in
     let n : r .before .u8-at .result ≡ u8At s 12 = r .before .u8-at .ensures in
-    let m : c .before .wide .result ≡ r .before .u8-at .result = c .before .wide .ensures in
     let d : c .set-stride .result ≡ strideOf (a .long) s = c .set-stride .ensures in
     let t : romsIn (a .image .now) (a .base) (a .filenames) (a .long) (p .address) (p .left)
     ≡ u8At s 12 + romsIn (a .image .now) (a .base) (a .filenames) (a .long) (p .address + c .set-stride .result) (p .left - 1) =
@@ -107,11 +108,11 @@ loop-again c =
       omega (arith, stride-bound (a .long) s),
       omega arith,
       omega arith,
-      omega (arith, t, n, m, k, p .inv .3),
+      omega (arith, t, n, k, p .inv .3),
       j ∙ p .inv .4,
       k ∙ p .inv .5,
-      sets-write (a .image .now) (a .base) (a .filenames) (a .long) (p .address) (p .left) h s v _ _ _ n m d _ _ _ _ _ (r .set-row .ensures) (q .put-words .ensures) ∙ p .inv .6,
-      all-write (a .image .now) (a .base) (a .filenames) (a .long) (p .address) (p .left) h s v _ _ _ n m d _ _ _ _ (w .before .before .u32-at .ensures) (w .write-roms .ensures) ∙ p .inv .7,
+      sets-write (a .image .now) (a .base) (a .filenames) (a .long) (p .address) (p .left) h s v _ _ n d _ _ _ _ _ (r .set-row .ensures) (q .put-words .ensures) ∙ p .inv .6,
+      all-write (a .image .now) (a .base) (a .filenames) (a .long) (p .address) (p .left) h s v _ _ n d _ _ _ _ (w .before .before .u32-at .ensures) (w .write-roms .ensures) ∙ p .inv .7,
     )
 
 same-length : tie.Need-same-length Inv-loop μ-loop
@@ -141,7 +142,7 @@ write-rom-sets-spec =
     cast-write-roms
     mul-write-roms
     write-roms-requires
-    wide-requires
+    cast-first
     add-first
     set-stride-requires
     add-address

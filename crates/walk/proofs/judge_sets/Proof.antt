@@ -5,7 +5,8 @@ use borrow.Author.Needs.{needs}
 use Rattle.walk.specs.Judged.{walked-good, walked-bad}
 use Rattle.walk.specs.Passes.{setsNumber, strideOf}
 use Rattle.le.specs.Le.{u8At}
-use Rattle.walk.specs.PassLaws.{stride-bound, romsIn, total-none, total-step}
+use Rattle.set_header.specs.Laws.{stride-bound}
+use Rattle.walk.specs.PassLaws.{romsIn, total-none, total-step}
 use Rattle.walk.proofs.Steps.{sets-none, sets-stop, sets-next}
 use Rattle.walk.proofs.judge_sets.Statement.{statement}
 use Rattle.walk.proofs.judge_sets.Tie as tie
@@ -37,8 +38,8 @@ image-from-requires c κs = search needs
 u8-at-requires : tie.Need-u8-at-requires Inv-loop μ-loop
 u8-at-requires c κs = search needs
 
-wide-requires : tie.Need-wide-requires Inv-loop μ-loop
-wide-requires c κs = search needs
+cast-roms : tie.Need-cast-roms Inv-loop μ-loop
+cast-roms c = search needs
 
 add-roms : tie.Need-add-roms Inv-loop μ-loop
 add-roms c = omega arith
@@ -47,7 +48,7 @@ set-stride-requires : tie.Need-set-stride-requires Inv-loop μ-loop
 set-stride-requires c κs = search needs
 
 add-address : tie.Need-add-address Inv-loop μ-loop
-add-address c = omega (arith, stride-bound (c .before .before .before .before .before .before .before .before .before .args .long) (c .before .before .before .image-from .result .now))
+add-address c = omega (arith, stride-bound (c .before .before .before .before .before .before .before .before .args .long) (c .before .before .image-from .result .now))
 
 sub-left : tie.Need-sub-left Inv-loop μ-loop
 sub-left c = omega arith
@@ -57,11 +58,11 @@ loop-less c = omega arith
 
 loop-again : tie.Need-loop-again Inv-loop μ-loop
 loop-again c =
-    let b = c .before .before .before .before in
+    let b = c .before .before .before in
     let p = b .before .before .before .loop in
     let a = b .before .before .before .before .before .args in
-    let s = c .before .before .before .image-from .result .now in
-    let v = c .before .before .before .image-from .ensures in
+    let s = c .before .before .image-from .result .now in
+    let v = c .before .before .image-from .ensures in
     let h = b .before .before .loop-test .taken in
     let e : c .set-stride .result ≡ strideOf (a .long) s = c .set-stride .ensures in
     let t : romsIn (a .image .now) (a .base) (a .filenames) (a .long) (p .address) (p .left)
@@ -70,7 +71,7 @@ loop-again c =
       omega (arith, stride-bound (a .long) s),
       omega arith,
       rw e (sets-next (a .image .now) (a .base) (a .filenames) (a .long) (p .address) (p .left) h _ (b .before .judge-set .ensures) (b .if1 .left) s v) ∙ p .inv .2,
-      omega (arith, t, p .inv .3, c .before .before .u8-at .ensures, c .before .wide .ensures),
+      omega (arith, t, p .inv .3, c .before .u8-at .ensures),
     )
 
 returns-2 : tie.Need-returns-2 Inv-loop μ-loop
@@ -91,7 +92,7 @@ judge-sets-spec =
     returns
     image-from-requires
     u8-at-requires
-    wide-requires
+    cast-roms
     add-roms
     set-stride-requires
     add-address

@@ -1,6 +1,6 @@
 use borrow.Author.Needs.{needs}
-use Rattle.walk.proofs.serve_config.Statement.{statement}
-use Rattle.walk.proofs.serve_config.Tie as tie
+use Rattle.set_header.proofs.firmware_overrides.Statement.{statement}
+use Rattle.set_header.proofs.firmware_overrides.Tie as tie
 
 u8-at-requires : tie.Need-u8-at-requires
 u8-at-requires c κs = search needs
@@ -14,5 +14,5 @@ pointed-at-requires c κs = search needs
 returns : tie.Need-returns
 returns c = cc
 
-pub serve-config-spec : {M : Type 1} → statement M
-serve-config-spec = tie.close (tie.spec u8-at-requires u32-at-requires pointed-at-requires returns)
+pub firmware-overrides-spec : {M : Type 1} → statement M
+firmware-overrides-spec = tie.close (tie.spec u8-at-requires u32-at-requires pointed-at-requires returns)

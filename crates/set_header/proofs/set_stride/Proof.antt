@@ -3,8 +3,8 @@ use mathlib.Core.Path.{_≡_}
 use lib.Dec.{eqb}
 use borrow.Author.Needs.{needs}
 use Rattle.le.specs.Le.{u8At}
-use Rattle.walk.proofs.set_stride.Statement.{statement}
-use Rattle.walk.proofs.set_stride.Tie as tie
+use Rattle.set_header.proofs.set_stride.Statement.{statement}
+use Rattle.set_header.proofs.set_stride.Tie as tie
 
 u8-at-requires : tie.Need-u8-at-requires
 u8-at-requires c κs = search needs

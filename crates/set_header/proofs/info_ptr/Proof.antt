@@ -1,6 +1,6 @@
 use borrow.Author.Needs.{needs}
-use Rattle.walk.proofs.info_ptr.Statement.{statement}
-use Rattle.walk.proofs.info_ptr.Tie as tie
+use Rattle.set_header.proofs.info_ptr.Statement.{statement}
+use Rattle.set_header.proofs.info_ptr.Tie as tie
 
 image-from-requires : tie.Need-image-from-requires
 image-from-requires c κs = search needs

@@ -1,7 +1,7 @@
 use borrow.Author.Needs.{needs}
-use Rattle.walk.proofs.Steps.{pointed-there, pointed-absent}
-use Rattle.walk.proofs.pointed_at.Statement.{statement}
-use Rattle.walk.proofs.pointed_at.Tie as tie
+use Rattle.set_header.proofs.Steps.{pointed-there, pointed-absent}
+use Rattle.set_header.proofs.pointed_at.Statement.{statement}
+use Rattle.set_header.proofs.pointed_at.Tie as tie
 
 both-requires : tie.Need-both-requires
 both-requires c κs = search needs

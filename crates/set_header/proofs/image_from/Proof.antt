@@ -1,8 +1,8 @@
 use native.Mathlib.Omega.{arith}
 use borrow.Author.Needs.{needs}
-use Rattle.walk.proofs.Steps.{from-below, from-past, from-inside}
-use Rattle.walk.proofs.image_from.Statement.{statement}
-use Rattle.walk.proofs.image_from.Tie as tie
+use Rattle.set_header.proofs.Steps.{from-below, from-past, from-inside}
+use Rattle.set_header.proofs.image_from.Statement.{statement}
+use Rattle.set_header.proofs.image_from.Tie as tie
 
 returns : tie.Need-returns
 returns c = from-below _ _ _ (omega arith)

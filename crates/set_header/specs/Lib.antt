@@ -1,0 +1,2 @@
+pub mod SetHeader
+pub mod Laws

@@ -10,10 +10,10 @@ both-requires-2 : tie.Need-both-requires-2
 both-requires-2 c κs = search needs
 
 returns : tie.Need-returns
-returns c = pointed-there _ _ (c .before .both2 .result) (cc) (c .if1 .taken)
+returns c = pointed-there _ (c .before .before .before .args .ptr) _ _ (c .before .before .both .ensures) (c .before .both2 .ensures) (c .if1 .taken)
 
 returns-2 : tie.Need-returns-2
-returns-2 c = pointed-absent _ _ (c .before .both2 .result) (cc) (c .if1 .left)
+returns-2 c = pointed-absent _ (c .before .before .before .args .ptr) _ _ (c .before .before .both .ensures) (c .before .both2 .ensures) (c .if1 .left)
 
 pub pointed-at-spec : {M : Type 1} → statement M
 pointed-at-spec = tie.close (tie.spec both-requires both-requires-2 returns returns-2)

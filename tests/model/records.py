@@ -17,7 +17,9 @@ def flag(s, at):
 
 
 def read(image, base, a, n):
-    """The n bytes at address a, or None where the read fails."""
+    """The n bytes at address a, or None where the read fails. An image may note its reads (opening.py)."""
+    if not isinstance(image, bytes):
+        return image.read(base, a, n)
     if base <= a <= TOP_ADDRESS and a + n <= base + len(image):
         return image[a - base : a - base + n]
     return None

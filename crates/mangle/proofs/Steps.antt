@@ -17,8 +17,9 @@ use Rattle.mangle.specs.BaseZero.{leastOf}
 use Rattle.mangle.specs.Bits.{taken, gather}
 use Rattle.mangle.specs.Demangle.{allBelow}
 use Rattle.mangle.specs.Mangle.{bitOf, raised}
-use Rattle.mangle.specs.PinMap.{withAddress, off, controlOff, withControl, withControls}
+use Rattle.mangle.specs.PinMap.{off, controlOff}
 use Rattle.mangle.specs.Rules.{isBit}
+use Rattle.mangle.specs.Words.{onPin, onPins, onControl, onControls}
 
 pub least-on : (ps : List ℕ) (i m : ℕ) → i < length ps
     → leastOf (drop i ps) m ≡ leastOf (drop (i + 1) ps) (pick (ltb (getD ps i 0) m) (getD ps i 0) m)
@@ -54,21 +55,15 @@ gather-end es x r i h = rw (drop-of-length-le es h) (omega arith)
 pub with-lt : (r b i : ℕ) → r < 2 ^ i → b < 2 → r + b * 2 ^ i < 2 ^ (i + 1)
 with-lt r b i h k = rw (add-one i, pow-suc) (let e = mul-le-mul-right (2 ^ i) (le-of-suc-le-suc k) in omega arith)
 
--- one more address bit to its pin
-pub address-on : (ps m : List ℕ) (i : ℕ) → i < length ps
-    → withAddress (drop i ps) i m ≡ withAddress (drop (i + 1) ps) (i + 1) (set m (getD ps i 0) i)
-unfolding withAddress
-address-on ps m i h = rw (add-one i, drop-cons ps i 0)
+-- one more bit on its pin
+pub pins-on : (f : ℕ → ℕ) (ps : List ℕ) (i w v : ℕ) → i < length ps
+    → onPins (map f (drop i ps)) i w v ≡ onPins (map f (drop (i + 1) ps)) (i + 1) w (onPin v (f (getD ps i 0)) (taken w i))
+unfolding onPins
+pins-on f ps i w v h = rw (add-one i, drop-cons ps i 0)
 
-pub address-end : (ps m : List ℕ) (i : ℕ) → length ps ≤ i → withAddress (drop i ps) i m ≡ m
-unfolding withAddress
-address-end ps m i h = rw (drop-of-length-le ps h)
-
--- inside the list the default plays no part
-pub getD-any : (l : List ℕ) (i a b : ℕ) → i < length l → getD l i a ≡ getD l i b
-getD-any [] i a b h = absurd (not-suc-le-zero h)
-getD-any (x ∷ l) zero a b h = refl
-getD-any (x ∷ l) (suc i) a b h = getD-any l i a b (le-of-suc-le-suc h)
+pub pins-end : (f : ℕ → ℕ) (ps : List ℕ) (i w v : ℕ) → length ps ≤ i → onPins (map f (drop i ps)) i w v ≡ v
+unfolding onPins
+pins-end f ps i w v h = rw (drop-of-length-le ps h)
 
 -- the pins from the i-th on
 pub below-on : (n i : ℕ) (ps : List ℕ) → i < length ps → getD ps i 0 < n → allBelow n (drop i ps) ≡ allBelow n (drop (i + 1) ps)
@@ -93,14 +88,14 @@ pub off-end : (ps bs : List ℕ) (i : ℕ) → length ps ≤ i → controlOff (d
 unfolding controlOff
 off-end ps bs i h = rw (drop-of-length-le ps h)
 
-pub control-on : (ps bs m : List ℕ) (i : ℕ) → i < length ps → i < length bs
-    → withControls (drop i ps) (drop i bs) m ≡ withControls (drop (i + 1) ps) (drop (i + 1) bs) (withControl m (getD ps i 0) (getD bs i 0))
-unfolding withControls
-control-on ps bs m i h k = rw (add-one i, drop-cons ps i 0, drop-cons bs i 0)
+pub control-on : (ps bs : List ℕ) (i w v : ℕ) → i < length ps → i < length bs
+    → onControls (drop i ps) (drop i bs) w v ≡ onControls (drop (i + 1) ps) (drop (i + 1) bs) w (onControl v (getD ps i 0) (getD bs i 0) w)
+unfolding onControls
+control-on ps bs i w v h k = rw (add-one i, drop-cons ps i 0, drop-cons bs i 0)
 
-pub control-end : (ps bs m : List ℕ) (i : ℕ) → length ps ≤ i → withControls (drop i ps) (drop i bs) m ≡ m
-unfolding withControls
-control-end ps bs m i h = rw (drop-of-length-le ps h)
+pub control-end : (ps bs : List ℕ) (i w v : ℕ) → length ps ≤ i → onControls (drop i ps) (drop i bs) w v ≡ v
+unfolding onControls
+control-end ps bs i w v h = rw (drop-of-length-le ps h)
 
 -- one more level
 pub raised-on : (ds : List ℕ) (ls : List Bool) (w i : ℕ) → i < length ds → i < length ls

@@ -89,12 +89,12 @@ pin-low m word p h = rw (bit-gather m word p, h)
 
 -- ---- the map has sixteen entries, so the mangled address is below 2^16
 
-address-length : (ps : List ℕ) (i : ℕ) (m : List ℕ) → length (withAddress ps i m) ≡ length m
+pub address-length : (ps : List ℕ) (i : ℕ) (m : List ℕ) → length (withAddress ps i m) ≡ length m
 unfolding withAddress
 address-length [] i m = refl
 address-length (p ∷ ps) i m = address-length ps (suc i) (set m p i) ∙ length-set m p i
 
-x-length : (m : List ℕ) (x1 x2 : ℕ) → length (withX m x1 x2) ≡ length m
+pub x-length : (m : List ℕ) (x1 x2 : ℕ) → length (withX m x1 x2) ≡ length m
 unfolding withX
 x-length m x1 x2 = simp length-set
 
@@ -102,7 +102,7 @@ pick-length : (b : Bool) (l m : List ℕ) → length l ≡ length m → length (
 pick-length true l m h = h
 pick-length false l m h = refl
 
-one-length : (m : List ℕ) (p b : ℕ) → length (withControl m p b) ≡ length m
+pub one-length : (m : List ℕ) (p b : ℕ) → length (withControl m p b) ≡ length m
 unfolding withControl
 one-length m p b = pick-length (isBit b) (set m p b) m (length-set m p b)
 

@@ -5,4 +5,6 @@ pub mod PinMap
 pub mod Mangle
 pub mod Demangle
 pub mod Laws
+pub mod Words
+pub mod WordLaws
 pub mod Cases

@@ -26,7 +26,7 @@ fn less(p: u8, m: u8) -> u8
     if p < m { 0 } else { p - m }
 }
 
-fn lower(m: u8, p: u8) -> u8
+pub(crate) fn lower(m: u8, p: u8) -> u8
     ensures { λ r. ⌜ r ≡ lowered m p ⌝ }
 {
     pick_num(p == 255, p, less(p, m))
@@ -45,7 +45,7 @@ fn lower_all(m: u8, ps: [u8; 16]) -> [u8; 16]
 }
 
 // Base-zero goes by the record's own byte and not by the type.
-fn least_pin(pins: SdrrPins) -> u8
+pub(crate) fn least_pin(pins: SdrrPins) -> u8
     ensures { λ r. ⌜ r ≡ leastPin pins ⌝ }
 {
     let a = pins.addr;

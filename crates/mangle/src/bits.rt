@@ -5,7 +5,7 @@ ghost use lib.Bits.{bitOr};
 ghost use lib.ListN.{length};
 ghost use Rattle.le.specs.Choice.{pick};
 ghost use Rattle.mangle.specs.Bits.{taken, gather};
-ghost use Rattle.mangle.specs.Mangle.{bitOf, place, raised};
+ghost use Rattle.mangle.specs.Mangle.{bitOf, raised};
 
 pub(crate) fn pick_num(c: bool, a: u8, b: u8) -> u8
     ensures { λ r. ⌜ r ≡ pick c a b ⌝ }
@@ -14,7 +14,7 @@ pub(crate) fn pick_num(c: bool, a: u8, b: u8) -> u8
 }
 
 // The bit of the word that an entry takes.
-fn bit_of(x: u32, e: u8) -> u32
+pub(crate) fn bit_of(x: u32, e: u8) -> u32
     ensures { λ r. ⌜ r ≡ taken x e ⌝ }
 {
     if e < 32 { (x >> e) & 1 } else { 0 }
@@ -42,13 +42,6 @@ fn gathered(entries: &[u8], x: u32) -> u32
         i += 1;
     }
     r
-}
-
-// The word's bits on the sixteen pins.
-pub(crate) fn place(map: [u8; 16], word: u32) -> u32
-    ensures { λ r. ⌜ r ≡ place map word ⌝ }
-{
-    gathered(&map, word)
 }
 
 // The bits of a byte at eight data pins.

@@ -2,7 +2,7 @@
 pub mod base; // base-zero
 pub mod rules; // the types
 pub mod bits; // bits of a word
-pub mod map; // the sixteen-pin map
+pub mod map; // the sixteen pins
 
 use pins::SdrrPins;
 use types::Level;
@@ -10,7 +10,7 @@ use types::SdrrCsSet;
 use types::SdrrRomType;
 ghost use mathlib.Core.Path.{_≡_};
 ghost use Rattle.types.specs.Types.{isHigh};
-ghost use Rattle.mangle.specs.Mangle.{levels, inputWord, mangleNumber, mangleBy, mangleCore};
+ghost use Rattle.mangle.specs.Mangle.{levels, inputWord, mangleNumber, mangleCore};
 ghost use Rattle.mangle.specs.Demangle.{allBelow, demangle};
 
 // What mangling goes by for a type of ROM. The mask is the largest address. cs1 to ce say to which input bit the
@@ -32,6 +32,12 @@ pub struct TypeRules {
 pub struct PinMap {
     pub number: u8,
     pub map: [u8; 16],
+}
+
+// The bits of a word on the address pins; and which of the sixteen pins have one.
+pub struct Placed {
+    pub value: u32,
+    pub mapped: u32,
 }
 
 // The mangled address; or a number, with value 0.
@@ -83,7 +89,7 @@ fn input_word(rom_type: SdrrRomType, rom_count: u32, levels: [bool; 5], address:
 }
 
 // The map's number n first, then 77, then 78.
-fn mangle_number(n: u8, rom_type: SdrrRomType, address: u32) -> u8
+pub(crate) fn mangle_number(n: u8, rom_type: SdrrRomType, address: u32) -> u8
     ensures { λ r. ⌜ r ≡ mangleNumber n «rom_type» address ⌝ }
 {
     let above = rules::mask(rom_type) < address;
@@ -93,31 +99,6 @@ fn mangle_number(n: u8, rom_type: SdrrRomType, address: u32) -> u8
         n,
         bits::pick_num(above, 77, bits::pick_num(c16, 78, 0)),
     )
-}
-
-// An address with its levels under a map.
-fn mangle_by(
-    map: PinMap,
-    rom_count: u32,
-    rom_type: SdrrRomType,
-    address: u32,
-    levels: [bool; 5],
-) -> Mangled
-    ensures { λ r. ⌜ r ≡ mangleBy map «rom_count» «rom_type» address levels ⌝ }
-{
-    let number = mangle_number(map.number, rom_type, address);
-    if number != 0 {
-        return Mangled {
-            number: number,
-            value: 0,
-        };
-    }
-    let entries = map.map;
-    let word = input_word(rom_type, rom_count, levels, address);
-    Mangled {
-        number: 0,
-        value: bits::place(entries, word),
-    }
 }
 
 // The mangled address, with the ROM count and the first type of the set that governs.
@@ -130,8 +111,12 @@ pub fn mangle_core(
 ) -> Mangled
     ensures { λ r. ⌜ r ≡ mangleCore pins «rom_count» «rom_type» address «cs_set» ⌝ }
 {
-    let m = map::pin_map(pins, rom_count, rom_type);
-    mangle_by(m, rom_count, rom_type, address, levels(cs_set))
+    let p = base::base_zero(pins);
+    let addr = pins.addr;
+    let word = input_word(rom_type, rom_count, levels(cs_set), address);
+    let a = map::address_pins(base::least_pin(pins), addr, word);
+    let controls = [p.cs1, p.cs2, p.cs3, p.oe, p.ce];
+    map::mangle_word(a, p.x1, p.x2, controls, rom_count, rom_type, address, word)
 }
 
 fn all_below(n: u8, pins: &[u8]) -> bool

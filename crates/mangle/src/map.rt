@@ -1,61 +1,64 @@
-// The sixteen-pin map (info.rs `mangle_address`).
-use super::PinMap;
-use super::base::base_zero;
+// The sixteen pins (info.rs `mangle_address`), as the bits of a word. The map of pins is not made: each bit is put on its pin at once, over
+// the bit of an earlier one.
+use super::Mangled;
+use super::Placed;
+use super::base::lower;
+use super::bits::bit_of;
 use super::rules::control_bits;
 use super::rules::rules_of;
 use le::both;
 use le::either;
-use pins::SdrrPins;
 use types::SdrrRomType;
 ghost use mathlib.Core.Path.{_≡_};
 ghost use mathlib.Core.Bool.{_&&_};
-ghost use lib.ListN.{set};
+ghost use mathlib.Core.List.{map};
+ghost use Prim.Native.Nat.{_<_};
 ghost use Rattle.le.specs.Choice.{pick};
+ghost use Rattle.mangle.specs.BaseZero.{lowered};
 ghost use Rattle.mangle.specs.Rules.{isBit};
-ghost use Rattle.mangle.specs.PinMap.{addressMap, off, isMapped, withX, controlOff, withControl, withControls, mapNumber, mapBy, pinMap};
+ghost use Rattle.mangle.specs.PinMap.{off, controlOff};
+ghost use Rattle.mangle.specs.Words.{onPin, placed, isHighPin, onX, onControl, onControls, wordNumber, wholeWord, mangleWord};
 
-// Pin takes bit; a pin past the end is left out.
-fn put(map: &mut [u8], pin: u8, bit: u8)
-    ensures { λ _. ⌜ now (map .exit) ≡ set (now (map .entry)) pin bit ⌝ }
+// Pin of v at level b; a pin past the sixteen is left out.
+fn put(v: u32, pin: u8, b: u32) -> u32
+    requires { ⌜ (v < 65536) × (b < 2) ⌝ }
+    ensures { λ r. ⌜ r ≡ onPin v pin b ⌝ }
 {
-    let at = pin as usize;
-    if at < map.len() {
-        map[at] = bit;
+    if pin < 16 {
+        v - (v & (1 << pin)) + (b << pin)
+    } else {
+        v
     }
 }
 
-fn address_map(addr: [u8; 16]) -> [u8; 16]
-    ensures { λ r. ⌜ r ≡ addressMap addr ⌝ }
+// The word's bits on the address pins, which are lowered by m first.
+pub(crate) fn address_pins(m: u8, addr: [u8; 16], word: u32) -> Placed
+    ensures { λ r. ⌜ r ≡ placed (map (lowered m) addr) word ⌝ }
 {
-    let mut map = [255u8; 16];
+    let mut value: u32 = 0;
+    let mut mapped: u32 = 0;
     let mut i: usize = 0;
     while i < 16 {
-        put(&mut map, addr[i], i as u8);
+        let pin = lower(m, addr[i]);
+        value = put(value, pin, bit_of(word, i as u8));
+        mapped = put(mapped, pin, bit_of(0xFFFFFFFF, i as u8));
         i += 1;
     }
-    map
+    Placed { value, mapped }
 }
 
-fn is_mapped(map: [u8; 16], pin: u8) -> bool
-    ensures { λ r. ⌜ r ≡ isMapped map pin ⌝ }
+fn is_high_pin(v: u32, pin: u8) -> bool
+    ensures { λ r. ⌜ r ≡ isHighPin v pin ⌝ }
 {
-    let at = pin as usize;
-    if at < 16 { map[at] < 32 } else { false }
+    bit_of(v, pin) == 1
 }
 
-fn with_x(map: [u8; 16], x1: u8, x2: u8) -> [u8; 16]
-    ensures { λ r. ⌜ r ≡ withX map x1 x2 ⌝ }
+fn with_x(v: u32, x1: u8, x2: u8, word: u32) -> u32
+    requires { ⌜ v < 65536 ⌝ }
+    ensures { λ r. ⌜ r ≡ onX v x1 x2 word ⌝ }
 {
-    let mut m = map;
-    put(&mut m, x1, 14);
-    put(&mut m, x2, 15);
-    m
-}
-
-fn pick_map(c: bool, a: [u8; 16], b: [u8; 16]) -> [u8; 16]
-    ensures { λ r. ⌜ r ≡ pick c a b ⌝ }
-{
-    if c { a } else { b }
+    let one = put(v, x1, bit_of(word, 14));
+    put(one, x2, bit_of(word, 15))
 }
 
 // Whether the type uses the control pin and it is no pin of the sixteen.
@@ -79,24 +82,28 @@ fn control_off(controls: [u8; 5], bits: [u8; 5]) -> bool
 }
 
 // The control pin takes its input bit, if it has one.
-fn put_control(map: &mut [u8], pin: u8, bit: u8)
-    ensures { λ _. ⌜ now (map .exit) ≡ withControl (now (map .entry)) pin bit ⌝ }
+fn put_control(v: u32, pin: u8, bit: u8, word: u32) -> u32
+    requires { ⌜ v < 65536 ⌝ }
+    ensures { λ r. ⌜ r ≡ onControl v pin bit word ⌝ }
 {
     if bit < 32 {
-        put(map, pin, bit);
+        put(v, pin, bit_of(word, bit))
+    } else {
+        v
     }
 }
 
-fn with_controls(map: [u8; 16], controls: [u8; 5], bits: [u8; 5]) -> [u8; 16]
-    ensures { λ r. ⌜ r ≡ withControls controls bits map ⌝ }
+fn with_controls(v: u32, controls: [u8; 5], bits: [u8; 5], word: u32) -> u32
+    requires { ⌜ v < 65536 ⌝ }
+    ensures { λ r. ⌜ r ≡ onControls controls bits word v ⌝ }
 {
-    let mut m = map;
+    let mut w = v;
     let mut i: usize = 0;
     while i < 5 {
-        put_control(&mut m, controls[i], bits[i]);
+        w = put_control(w, controls[i], bits[i], word);
         i += 1;
     }
-    m
+    w
 }
 
 // The first of 72 to 76 whose test holds, or 0.
@@ -118,57 +125,69 @@ fn first_of(x_off: bool, x_taken: bool, no_rom: bool, unsupported: bool, control
     if control_off { 76 } else { 0 }
 }
 
+// X1 and X2 are tested before either is written.
 fn map_number(
-    map: [u8; 16],
+    mapped: u32,
     x1: u8,
     x2: u8,
     controls: [u8; 5],
     rom_count: u32,
     rom_type: SdrrRomType,
 ) -> u8
-    ensures { λ r. ⌜ r ≡ mapNumber map x1 x2 controls «rom_count» «rom_type» ⌝ }
+    ensures { λ r. ⌜ r ≡ wordNumber mapped x1 x2 controls «rom_count» «rom_type» ⌝ }
 {
     let several = 2 <= rom_count;
     let r = rules_of(rom_type);
     let x_off = both(several, either(16 <= x1, 16 <= x2));
-    let x_taken = both(several, either(is_mapped(map, x1), is_mapped(map, x2)));
+    let x_taken = both(
+        several,
+        either(is_high_pin(mapped, x1), is_high_pin(mapped, x2)),
+    );
     let off = control_off(controls, control_bits(rom_type));
     first_of(x_off, x_taken, rom_count == 0, !r.supported, off)
 }
 
-// X1 and X2 are tested before either is written.
-fn map_by(
-    map: [u8; 16],
+// X1 and X2 with several ROMs, then the control pins.
+fn whole_word(
+    v: u32,
     x1: u8,
     x2: u8,
     controls: [u8; 5],
     rom_count: u32,
     rom_type: SdrrRomType,
-) -> PinMap
-    ensures { λ r. ⌜ r ≡ mapBy map x1 x2 controls «rom_count» «rom_type» ⌝ }
+    word: u32,
+) -> u32
+    requires { ⌜ v < 65536 ⌝ }
+    ensures { λ r. ⌜ r ≡ wholeWord v x1 x2 controls «rom_count» «rom_type» word ⌝ }
 {
-    let with = with_x(map, x1, x2);
-    let number = map_number(map, x1, x2, controls, rom_count, rom_type);
-    if number != 0 {
-        return PinMap {
-            number: number,
-            map: [255u8; 16],
-        };
+    let bits = control_bits(rom_type);
+    if 2 <= rom_count {
+        return with_controls(with_x(v, x1, x2, word), controls, bits, word);
     }
-    let m = pick_map(2 <= rom_count, with, map);
-    let whole = with_controls(m, controls, control_bits(rom_type));
-    PinMap {
-        number: 0,
-        map: whole,
-    }
+    with_controls(v, controls, bits, word)
 }
 
-// The map of a pins record, with the ROM count and the first type of the set that governs.
-pub(crate) fn pin_map(pins: SdrrPins, rom_count: u32, rom_type: SdrrRomType) -> PinMap
-    ensures { λ r. ⌜ r ≡ pinMap pins «rom_count» «rom_type» ⌝ }
+// The mangled address, from the address pins as placed.
+pub(crate) fn mangle_word(
+    a: Placed,
+    x1: u8,
+    x2: u8,
+    controls: [u8; 5],
+    rom_count: u32,
+    rom_type: SdrrRomType,
+    address: u32,
+    word: u32,
+) -> Mangled
+    requires { ⌜ a .value < 65536 ⌝ }
+    ensures { λ r. ⌜ r ≡ mangleWord a x1 x2 controls «rom_count» «rom_type» address word ⌝ }
 {
-    let p = base_zero(pins);
-    let addr = p.addr;
-    let controls = [p.cs1, p.cs2, p.cs3, p.oe, p.ce];
-    map_by(address_map(addr), p.x1, p.x2, controls, rom_count, rom_type)
+    let n = map_number(a.mapped, x1, x2, controls, rom_count, rom_type);
+    let number = super::mangle_number(n, rom_type, address);
+    if number != 0 {
+        return Mangled { number, value: 0 };
+    }
+    Mangled {
+        number: 0,
+        value: whole_word(a.value, x1, x2, controls, rom_count, rom_type, word),
+    }
 }

@@ -1,20 +1,42 @@
+use native.Mathlib.Omega.{arith}
 use borrow.Author.Needs.{needs}
-use Rattle.mangle.specs.Mangle.{mangleOf, mangleCore}
+use Rattle.mangle.specs.WordLaws.{pins-lt, word-core}
 use Rattle.mangle.proofs.mangle_core.Statement.{statement}
 use Rattle.mangle.proofs.mangle_core.Tie as tie
 
-pin-map-requires : tie.Need-pin-map-requires
-pin-map-requires c κs = search needs
+base-zero-requires : tie.Need-base-zero-requires
+base-zero-requires c κs = search needs
 
 levels-requires : tie.Need-levels-requires
 levels-requires c κs = search needs
 
-mangle-by-requires : tie.Need-mangle-by-requires
-mangle-by-requires c κs = search needs
+input-word-requires : tie.Need-input-word-requires
+input-word-requires c κs = search needs
+
+least-pin-requires : tie.Need-least-pin-requires
+least-pin-requires c κs = search needs
+
+address-pins-requires : tie.Need-address-pins-requires
+address-pins-requires c κs = search needs
+
+mangle-word-requires : tie.Need-mangle-word-requires
+mangle-word-requires c κs = rw (c .address-pins .ensures) (pins-lt _ 0 _ 0 (omega arith))
 
 returns : tie.Need-returns
-unfolding mangleCore mangleOf
-returns c = rw (c .mangle-by .ensures, c .before .levels .ensures, c .before .before .pin-map .ensures)
+returns c =
+    let w = c .before .before .before in
+    let a = w .before .before .before .before .args in
+    rw (c .mangle-word .ensures, c .before .address-pins .ensures, c .before .before .least-pin .ensures, w .input-word .ensures, w .before .levels .ensures, w .before .before .before .base-zero .ensures)
+    (word-core (a .pins) (a .rom-count) (a .rom-type) (a .address) (a .cs-set))
 
 pub mangle-core-spec : {M : Type 1} → statement M
-mangle-core-spec = tie.close (tie.spec pin-map-requires levels-requires mangle-by-requires returns)
+mangle-core-spec =
+    tie.close
+    (tie.spec
+    base-zero-requires
+    levels-requires
+    input-word-requires
+    least-pin-requires
+    address-pins-requires
+    mangle-word-requires
+    returns)

@@ -1,5 +1,5 @@
 use borrow.Author.Needs.{needs}
-use Rattle.mangle.specs.PinMap.{mapNumber}
+use Rattle.mangle.specs.Words.{wordNumber}
 use Rattle.mangle.proofs.map.map_number.Statement.{statement}
 use Rattle.mangle.proofs.map.map_number.Tie as tie
 
@@ -12,11 +12,11 @@ either-requires c κs = search needs
 both-requires : tie.Need-both-requires
 both-requires c κs = search needs
 
-is-mapped-requires : tie.Need-is-mapped-requires
-is-mapped-requires c κs = search needs
+is-high-pin-requires : tie.Need-is-high-pin-requires
+is-high-pin-requires c κs = search needs
 
-is-mapped-requires-2 : tie.Need-is-mapped-requires-2
-is-mapped-requires-2 c κs = search needs
+is-high-pin-requires-2 : tie.Need-is-high-pin-requires-2
+is-high-pin-requires-2 c κs = search needs
 
 either-requires-2 : tie.Need-either-requires-2
 either-requires-2 c κs = search needs
@@ -34,8 +34,8 @@ first-of-requires : tie.Need-first-of-requires
 first-of-requires c κs = search needs
 
 returns : tie.Need-returns
-unfolding mapNumber
-returns c = rw (c .first-of .ensures, c .before .before .control-off .ensures, c .before .before .before .control-bits .ensures, c .before .before .before .before .both2 .ensures, c .before .before .before .before .before .either2 .ensures, c .before .before .before .before .before .before .is-mapped2 .ensures, c .before .before .before .before .before .before .before .is-mapped .ensures, c .before .before .before .before .before .before .before .before .both .ensures, c .before .before .before .before .before .before .before .before .before .either .ensures, c .before .before .before .before .before .before .before .before .before .before .rules-of .ensures)
+unfolding wordNumber
+returns c = rw (c .first-of .ensures, c .before .before .control-off .ensures, c .before .before .before .control-bits .ensures, c .before .before .before .before .both2 .ensures, c .before .before .before .before .before .either2 .ensures, c .before .before .before .before .before .before .is-high-pin2 .ensures, c .before .before .before .before .before .before .before .is-high-pin .ensures, c .before .before .before .before .before .before .before .before .both .ensures, c .before .before .before .before .before .before .before .before .before .either .ensures, c .before .before .before .before .before .before .before .before .before .before .rules-of .ensures)
 
 pub map-number-spec : {M : Type 1} → statement M
 map-number-spec =
@@ -44,8 +44,8 @@ map-number-spec =
     rules-of-requires
     either-requires
     both-requires
-    is-mapped-requires
-    is-mapped-requires-2
+    is-high-pin-requires
+    is-high-pin-requires-2
     either-requires-2
     both-requires-2
     control-bits-requires

@@ -1,22 +1,27 @@
 use borrow.Author.Needs.{needs}
 use borrow.Author.Tests.{lt-ltb, le-ltb}
-use Rattle.mangle.specs.PinMap.{withControl}
+use Rattle.mangle.specs.Laws.{taken-lt}
+use Rattle.mangle.specs.Words.{onControl}
 use Rattle.mangle.proofs.map.put_control.Statement.{statement}
 use Rattle.mangle.proofs.map.put_control.Tie as tie
 
-put-requires : tie.Need-put-requires
-put-requires c κs = search needs
+bit-of-requires : tie.Need-bit-of-requires
+bit-of-requires c κs = search needs
 
-same-length : tie.Need-same-length
-same-length c = search needs
+put-requires : tie.Need-put-requires
+put-requires c κs =
+    let a = c .before .before .args in
+    (c .before .before .pre, rw (c .bit-of .ensures) (taken-lt (a .word) (a .bit)))
 
 returns : tie.Need-returns
-unfolding withControl
-returns c = rw (lt-ltb (c .before .before .before .before .before .before .args .bit) 32 (c .before .before .before .before .if1 .taken)) (c .before .before .put .ensures)
+unfolding onControl
+returns c =
+    let a = c .before .before .before .args in
+    rw (lt-ltb (a .bit) 32 (c .before .before .if1 .taken), c .put .ensures, c .before .bit-of .ensures)
 
 returns-2 : tie.Need-returns-2
-unfolding withControl
-returns-2 c = rw (le-ltb (c .before .before .args .bit) 32 (c .if1 .left))
+unfolding onControl
+returns-2 c = rw (le-ltb (c .before .args .bit) 32 (c .if1 .left))
 
 pub put-control-spec : {M : Type 1} → statement M
-put-control-spec = tie.close (tie.spec put-requires same-length returns returns-2)
+put-control-spec = tie.close (tie.spec bit-of-requires put-requires returns returns-2)

@@ -1,0 +1,59 @@
+// Calls on a report and rows as the input lends them.
+use super::calls;
+use super::record;
+use super::words;
+use pins::PinsItem;
+use rom_reads::Board;
+use types::McuLine;
+
+fn line(n: u32) -> McuLine {
+    match n {
+        1 => McuLine::F405,
+        2 => McuLine::F411,
+        3 => McuLine::F446,
+        4 => McuLine::F401BC,
+        5 => McuLine::Rp2350,
+        _ => McuLine::F401DE,
+    }
+}
+
+// The pins item: the pins of a record of 88 bytes, with a number of its own.
+fn pins(bytes: &[u8], number: u8) -> PinsItem {
+    let item = pins::parse_pins(bytes);
+    let pins = item.pins;
+    PinsItem { number, pins }
+}
+
+fn board(given: &[u8]) -> Board {
+    let number = (record::word(given, 9) % 256) as u8;
+    Board {
+        flash_base: record::word(given, 1),
+        cs0_base: record::word(given, 2),
+        line: line(record::word(given, 3)),
+        pins: pins(record::rest(given), number),
+        served: record::word(given, 8),
+    }
+}
+
+// The rows stand behind the pins, and the calls behind the rows.
+fn run_rows(given: &[u8], sets: &mut [u32], roms: &mut [u32]) {
+    let rows = record::from(record::rest(given), 88);
+    let rom_rows = record::from(rows, 4 * (record::word(given, 4) as usize));
+    let calls = record::from(rom_rows, 4 * (record::word(given, 5) as usize));
+    words::load(sets, rows);
+    words::load(roms, rom_rows);
+    let image = record::image(given);
+    calls::run_all(image, board(given), sets, roms, calls);
+}
+
+pub(crate) fn run(given: &[u8], sets: &mut [u32], roms: &mut [u32]) {
+    let n = record::word(given, 4) as usize;
+    let m = record::word(given, 5) as usize;
+    if sets.len() < n {
+        return;
+    }
+    if roms.len() < m {
+        return;
+    }
+    run_rows(given, &mut sets[..n], &mut roms[..m]);
+}

@@ -1,0 +1,140 @@
+// A board that is opened: its report, its rows, the calls on them, and its cuts.
+use super::calls;
+use super::cuts;
+use super::record;
+use super::report;
+use super::show;
+use super::words;
+use fw_parser::Opening;
+use fw_parser::SdrrInfo;
+use fw_parser::Settings;
+use rom_reads::Board;
+
+fn settings(given: &[u8]) -> Settings {
+    Settings {
+        flash_base: record::word(given, 1),
+        cs0_base: record::word(given, 2),
+        info_offset: record::word(given, 3),
+    }
+}
+
+// What later calls look at.
+pub(crate) fn board(s: Settings, info: SdrrInfo) -> Board {
+    let fields = info.fields;
+    let line = fields.stm_line;
+    let pins = info.pins;
+    let sets = info.rom_sets;
+    Board {
+        flash_base: s.flash_base,
+        cs0_base: s.cs0_base,
+        line,
+        pins,
+        served: sets.served,
+    }
+}
+
+// Opens an image with rows that are filled before.
+pub(crate) fn open(image: &[u8], s: Settings, sets: &mut [u32], roms: &mut [u32]) -> Opening {
+    words::fill(sets);
+    words::fill(roms);
+    fw_parser::parse_flash(image, s, sets, roms)
+}
+
+// The number and the report; of a refusal the number and the report's sum.
+fn show_report(number: u8, report: &[u32; 122]) {
+    show::first(number as u32);
+    if number == 0 {
+        report::show(report);
+    } else {
+        show::next(report::sum(report));
+    }
+    show::end();
+}
+
+// The sum of a whole buffer of rows, then the words of its rows, n of them; of more than 16 rows the first and the last.
+fn show_rows(buffer: &[u32], width: u8, n: usize) {
+    show::first(words::sum(buffer));
+    let w = width as usize;
+    if n <= 16 * w {
+        show::words(words::part(buffer, 0, n));
+    } else {
+        show::words(words::part(buffer, 0, w));
+        show::words(words::part(buffer, n - w, w));
+    }
+    show::end();
+}
+
+// How many ROM rows the sets have: the last set's first row and its count.
+fn rom_rows(sets: &[u32], served: u32) -> u32 {
+    if served == 0 {
+        return 0;
+    }
+    let last = 8 * ((served - 1) as usize);
+    words::at(sets, last + 2) % 65536 + words::at(sets, last + 3) % 256
+}
+
+fn show_all_rows(sets: &[u32], roms: &[u32], served: u32) {
+    show_rows(sets, 8, 8 * (served as usize));
+    show_rows(roms, 7, 7 * (rom_rows(sets, served) as usize));
+}
+
+// Shows the answer, and runs the calls.
+fn show_opening(given: &[u8], b: Board, o: Opening, sets: &[u32], roms: &[u32]) {
+    let info = o.info;
+    let report = report::words_of(info);
+    show_report(o.number, &report);
+    show_all_rows(sets, roms, b.served);
+    calls::run_all(record::image(given), b, sets, roms, record::calls(given));
+}
+
+// The cuts, where there are any.
+fn run_cuts(given: &[u8], info: SdrrInfo, sets: &[u32], roms: &[u32]) {
+    let n = sets.len();
+    let m = roms.len();
+    if record::word(given, 8) == 0 {
+        return;
+    }
+    if 4096 < n {
+        return;
+    }
+    if 4096 < m {
+        return;
+    }
+    let report = report::words_of(info);
+    let s = settings(given);
+    let b = board(s, info);
+    let mut cut_sets = words::set_space();
+    let mut cut_roms = words::set_space();
+    cuts::run(
+        given,
+        s,
+        b,
+        &report,
+        sets,
+        roms,
+        &mut cut_sets[..n],
+        &mut cut_roms[..m],
+    );
+}
+
+// Opens the image, and each of its cuts.
+fn run_rows(given: &[u8], sets: &mut [u32], roms: &mut [u32]) {
+    let s = settings(given);
+    let o = open(record::image(given), s, sets, roms);
+    let info = o.info;
+    show_opening(given, board(s, info), o, sets, roms);
+    run_cuts(given, info, sets, roms);
+}
+
+// The rows have the lengths in words 4 and 5.
+pub(crate) fn run(given: &[u8], sets: &mut [u32], roms: &mut [u32]) {
+    let n = record::word(given, 4) as usize;
+    let m = record::word(given, 5) as usize;
+    if sets.len() < n {
+        return;
+    }
+    if roms.len() < m {
+        return;
+    }
+    run_rows(given, &mut sets[..n], &mut roms[..m]);
+}

@@ -1,0 +1,180 @@
+#!/usr/bin/env python3
+"""Makes crates/boards/stdin and stdout: whole boards, their calls and their cuts, with the answers of opening.py.
+
+    python3 tests/model/make_boards.py
+
+A record of stdin is its length and then, packed (see `packed`), ten words, the image and more, all little-endian.
+    66  flash base, CS0 base, info offset, set words, ROM words, image length, calls, cuts, reach; the calls, the cuts (FFFFFFFF: every length)
+        Opens the image with row buffers of these lengths. Lines: the number, the sum of the report's words, and the words of the items that
+        are not refused; the sum of the set rows' buffer, and the rows; the same of the ROM rows; the calls' replies; and where there are
+        cuts a line on demand 3: what failed, cuts, refused, ended, equal, reads that a cut accepted, the sum over all answers of the cuts.
+    76  flash base, CS0 base, line, set words, ROM words, image length, calls, sets served, pins number; the pins' 88 bytes, the rows, the calls
+        Calls on a report and rows as lent. One line.
+A call is 16 bytes: kind, levels (five digits to base 3, CS1 the lowest), u16 length, set, address, count. tests/data/boards-vectors.xz and
+lent-vectors.xz are answers of another reader of document 01; where the two differ, this script stops.
+"""
+import os, struct
+
+import cases, given, opening
+from opening import KINDS, NONE
+
+TOP = os.path.join(os.path.dirname(os.path.abspath(__file__)), "..", "..")
+
+
+def mix(a, n):
+    return (a * 65599 + n) % 4294967291
+
+
+def sum_of(numbers):
+    s = 1
+    for n in numbers:
+        s = mix(s, n)
+    return s
+
+
+def packed(data):
+    """Runs of at least three equal bytes as 125 and their number, and the byte; other bytes, at most 128, behind their number less one."""
+    out, plain, i = bytearray(), bytearray(), 0
+    while i < len(data):
+        n = 1
+        while n < 130 and i + n < len(data) and data[i + n] == data[i]:
+            n += 1
+        if n < 3:
+            plain.append(data[i])
+            n = 1
+        if n >= 3 or len(plain) == 128 or i + n == len(data):
+            out += bytes([len(plain) - 1]) + plain if plain else b""
+            plain = bytearray()
+        if n >= 3:
+            out += bytes([125 + n, data[i]])
+        i += n
+    return bytes(out)
+
+
+def report_line(o):
+    if o.number:
+        return [o.number, sum_of(o.words)]
+    items = [o.words[:33]]
+    for (at, n), refusable in ((opening.EXTRA, True), ((40, 4), False), (opening.PINS, True)):
+        items.append(o.words[at : at + (1 if refusable and o.words[at] else n)])
+    return [0, sum_of(o.words)] + [w for item in items for w in item]
+
+
+def call_bytes(c):
+    levels = sum(digit * 3**i for i, digit in enumerate(c.levels))
+    return struct.pack("<BBHIII", KINDS.index(c.kind), levels, c.n, c.set, c.address, c.count)
+
+
+def reply_words(call, lent, image):
+    """What the program shows of a reply: of a read of several bytes the sum of the buffer."""
+    answer = list(call.answer(lent, image))
+    if not call.reads():
+        return answer
+    number, bs, count = answer
+    if call.kind == "data":
+        return [number, sum_of(opening.byte_pattern(call.n) if number else bs), count]
+    return [number, bs[0] if bs else 0, count]
+
+
+def calls_line(calls, lent, image):
+    parts = []
+    for c in calls:
+        words = reply_words(c, lent, image)
+        parts.append(" ".join(map(str, [words[0], words[1]] + ([words[2]] if c.reads() else []))))
+    return ", ".join(parts)
+
+
+def rows_line(rows, n):
+    shown = rows if len(rows) <= 16 else [rows[0], rows[-1]]
+    return " ".join(map(str, [sum_of(opening.left(rows, n))] + [w for row in shown for w in row]))
+
+
+def cuts_line(image, settings, set_words, rom_words, calls, cuts, reach):
+    refused = ended = equal = reads = 0
+    total = 1
+    for k in cuts:
+        o = opening.opening(image[:k], settings, set_words, rom_words)
+        rows = mix(sum_of(opening.left(o.sets, set_words)), sum_of(opening.left(o.roms, rom_words)))
+        total = mix(total, mix(mix(rows, o.number), sum_of(o.words)))
+        refused += o.number != 0
+        ended += o.number == 0 and k < reach
+        equal += o.number == 0 and k >= reach
+        if o.number:
+            continue
+        lent = opening.lent_of(o, settings, set_words, rom_words)
+        for c in calls:
+            if c.reads():
+                number, value, count = reply_words(c.first(), lent, image[:k])
+                total = mix(mix(total, number), mix(value, count))
+                reads += number == 0
+    return "demand 3 holds: " + " ".join(map(str, (0, len(cuts), refused, ended, equal, reads, total)))
+
+
+class Out:
+    def __init__(self):
+        self.given, self.lines, self.records, self.calls, self.cuts = [], [], 0, 0, 0
+
+    def record(self, *parts):
+        data = b"".join(parts)
+        assert len(data) <= 65536
+        data = packed(data)
+        self.given.append(struct.pack("<I", len(data)) + data)
+        self.records += 1
+
+    def board(self, image, settings, set_words, rom_words, calls=(), cuts=(), opened=None):
+        o = opened or opening.opening(image, settings, set_words, rom_words)
+        reach = o.image.reach()
+        head = struct.pack("<10I", 66, *settings, set_words, rom_words, len(image), len(calls), NONE if cuts == "all" else len(cuts), reach)
+        self.record(head, image, *map(call_bytes, calls), b"" if cuts == "all" else struct.pack("<%dI" % len(cuts), *cuts))
+        cuts = range(len(image) + 1) if cuts == "all" else cuts
+        self.lines.append(" ".join(map(str, report_line(o))))
+        self.lines += [rows_line(o.sets, set_words), rows_line(o.roms, rom_words)]
+        lent = opening.lent_of(o, settings, set_words, rom_words)
+        self.lines.append(calls_line(calls, lent, image))
+        if cuts:
+            assert o.number == 0
+            self.lines.append(cuts_line(image, settings, set_words, rom_words, calls, cuts, reach))
+        self.calls += len(calls)
+        self.cuts += len(cuts)
+
+    def lent(self, image, lent, calls):
+        sets, roms, pins = lent.sets, lent.roms, lent.pins
+        head = struct.pack("<10I", 76, lent.flash, lent.cs0, lent.line, len(sets), len(roms), len(image), len(calls), lent.served, pins[0])
+        record = cases.pins_record(pins)
+        rows = struct.pack("<%dI" % (len(sets) + len(roms)), *sets, *roms)
+        self.record(head, image, record, rows, *map(call_bytes, calls))
+        self.lines.append(calls_line(calls, lent, image))
+        self.calls += len(calls)
+
+
+def cuts_of(o, size, every):
+    """Every length; or where each shown read ends, and a byte before, nothing and all of the image. None where the image does not open."""
+    if o.number:
+        return ()
+    return "all" if every else sorted({0, size} | {k for at, n in o.image.spans for k in (at + n - 1, at + n)})
+
+
+def main():
+    out = Out()
+    for i, (image, settings, set_words, rom_words, o, calls) in enumerate(given.boards()):
+        out.board(image, settings, set_words, rom_words, calls, cuts_of(o, len(image), len(image) <= 1100 or i % 20 == 0), o)
+    print("the other reader's boards agree:", out.records, "boards,", out.calls, "calls;", out.cuts, "cuts")
+    records, calls = out.records, out.calls
+    for image, lent, cs in given.lent():
+        out.lent(image, lent, cs)
+    print("the other reader's lent rows agree:", out.records - records, "reports,", out.calls - calls, "calls")
+    for name, boards in cases.GROUPS:
+        records, calls, cuts = out.records, out.calls, out.cuts
+        for case in boards():
+            case.run(out)
+        print("%s: %d records, %d calls, %d cuts" % (name, out.records - records, out.calls - calls, out.cuts - cuts))
+    crate = os.path.join(TOP, "crates/boards")
+    with open(os.path.join(crate, "stdin"), "wb") as f:
+        f.write(b"".join(out.given))
+    with open(os.path.join(crate, "stdout"), "w") as f:
+        f.write("".join(line + "\n" for line in out.lines))
+    print(out.records, "records,", out.calls, "calls,", out.cuts, "cuts in all")
+
+
+if __name__ == "__main__":
+    main()

@@ -29,3 +29,9 @@ test_rust_example() {
         target/example-rust samples/rp2350.img >target/example-rust.out &&
         cmp target/example-rust.out tests/data/example.txt
 }
+
+# The sample boards are what their generator makes.
+test_samples() {
+    command -v python3 >/dev/null || { echo "samples not made anew: there is no python3"; return 0; }
+    python3 -B samples/make.py --check && python3 -B samples/example.py | cmp - tests/data/example.txt
+}

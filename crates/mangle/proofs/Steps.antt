@@ -4,7 +4,7 @@ use Prim.Native.Nat.{ℕ, zero, suc, _+_, _*_, _^_, _≤_, _<_}
 use native.Mathlib.Nat.{add-mul, mul-assoc, pow-suc, mul-le-mul-right, le-of-suc-le-suc, not-suc-le-zero}
 use native.Mathlib.Numerals.{add-one}
 use native.Mathlib.Omega.{arith}
-use mathlib.Core.Path.{_≡_, refl}
+use mathlib.Core.Path.{_≡_, refl, sym}
 use mathlib.Core.List.{List, [], _∷_, _++_, map, append-assoc, append-nil}
 use mathlib.Core.Bool.{Bool, true, false, _&&_, _||_}
 use lib.Bits.{bitOr}
@@ -13,13 +13,14 @@ use lib.ListN.{length, getD, take, drop, set, drop-of-length-le}
 use lib.Seq.{drop-cons, take-all, take-suc-set}
 use borrow.Author.Tests.{lt-ltb, le-ltb}
 use Rattle.le.specs.Choice.{pick}
+use Rattle.mangle.specs.declared.Placed.{Placed}
 use Rattle.mangle.specs.BaseZero.{leastOf}
 use Rattle.mangle.specs.Bits.{taken, gather}
 use Rattle.mangle.specs.Demangle.{allBelow}
 use Rattle.mangle.specs.Mangle.{bitOf, raised}
 use Rattle.mangle.specs.PinMap.{off, controlOff}
 use Rattle.mangle.specs.Rules.{isBit}
-use Rattle.mangle.specs.Words.{onPin, onPins, onControl, onControls}
+use Rattle.mangle.specs.Words.{onPins, allHigh, stepPin, onControl, onControls}
 
 pub least-on : (ps : List ℕ) (i m : ℕ) → i < length ps
     → leastOf (drop i ps) m ≡ leastOf (drop (i + 1) ps) (pick (ltb (getD ps i 0) m) (getD ps i 0) m)
@@ -55,15 +56,23 @@ gather-end es x r i h = rw (drop-of-length-le es h) (omega arith)
 pub with-lt : (r b i : ℕ) → r < 2 ^ i → b < 2 → r + b * 2 ^ i < 2 ^ (i + 1)
 with-lt r b i h k = rw (add-one i, pow-suc) (let e = mul-le-mul-right (2 ^ i) (le-of-suc-le-suc k) in omega arith)
 
--- one more bit on its pin
-pub pins-on : (f : ℕ → ℕ) (ps : List ℕ) (i w v : ℕ) → i < length ps
-    → onPins (map f (drop i ps)) i w v ≡ onPins (map f (drop (i + 1) ps)) (i + 1) w (onPin v (f (getD ps i 0)) (taken w i))
-unfolding onPins
-pins-on f ps i w v h = rw (add-one i, drop-cons ps i 0)
+-- the pins from the i-th on, over those before
+abbrev pub restOn : (ℕ → ℕ) → List ℕ → ℕ → ℕ → Placed → Placed
+restOn f ps w i s = record { value = onPins (map f (drop i ps)) i w (s .value); mapped = onPins (map f (drop i ps)) i allHigh (s .mapped) }
 
-pub pins-end : (f : ℕ → ℕ) (ps : List ℕ) (i w v : ℕ) → length ps ≤ i → onPins (map f (drop i ps)) i w v ≡ v
+rest-on : (f : ℕ → ℕ) (ps : List ℕ) (w i : ℕ) (s : Placed) → i < length ps
+    → restOn f ps w i s ≡ restOn f ps w (suc i) (stepPin s (f (getD ps i 0)) w i)
 unfolding onPins
-pins-end f ps i w v h = rw (drop-of-length-le ps h)
+rest-on f ps w i s h = rw (drop-cons ps i 0)
+
+-- what is left after a step is what was left before
+pub rest-step : (f : ℕ → ℕ) (ps : List ℕ) (w i : ℕ) (s t : Placed) (p : ℕ) → i < length ps → t ≡ stepPin s p w i → p ≡ f (getD ps i 0)
+    → restOn f ps w (suc i) t ≡ restOn f ps w i s
+rest-step f ps w i s t p h d e = rw (d, e) (sym (rest-on f ps w i s h))
+
+pub rest-end : (f : ℕ → ℕ) (ps : List ℕ) (w i : ℕ) (s : Placed) → length ps ≤ i → restOn f ps w i s ≡ s
+unfolding onPins
+rest-end f ps w i s h = rw (drop-of-length-le ps h)
 
 -- the pins from the i-th on
 pub below-on : (n i : ℕ) (ps : List ℕ) → i < length ps → getD ps i 0 < n → allBelow n (drop i ps) ≡ allBelow n (drop (i + 1) ps)

@@ -26,6 +26,10 @@ onPins (p ∷ ps) i w v = onPins ps (suc i) w (onPin v p (taken w i))
 abbrev pub allHigh : ℕ
 allHigh = 4294967295
 
+-- one bit more, under a word and under the word of ones
+abbrev pub stepPin : Placed → (p w i : ℕ) → Placed
+stepPin s p w i = record { value = onPin (s .value) p (taken w i); mapped = onPin (s .mapped) p (taken allHigh i) }
+
 -- the address pins under a word, and those that take a bit
 abbrev pub placed : List ℕ → ℕ → Placed
 placed ps w = record { value = onPins ps 0 w 0; mapped = onPins ps 0 allHigh 0 }

@@ -4,7 +4,8 @@ use pins::SdrrPins;
 ghost use mathlib.Core.Path.{_≡_};
 ghost use mathlib.Core.List.{map};
 ghost use Prim.Native.Nat.{_-_};
-ghost use Rattle.mangle.specs.BaseZero.{leastOf, lowered, leastPin, baseZero};
+ghost use Rattle.le.specs.Choice.{pick};
+ghost use Rattle.mangle.specs.BaseZero.{leastOf, lowered, has24, leastPin, loweredBy, baseZero};
 
 fn least_of(ps: &[u8], m: u8) -> u8
     ensures { λ r. ⌜ r ≡ leastOf (now (ps .entry)) m ⌝ }
@@ -65,11 +66,17 @@ pub(crate) fn least_pin(pins: SdrrPins) -> u8
     least_of(&controls, m)
 }
 
-pub fn base_zero(pins: SdrrPins) -> SdrrPins
-    ensures { λ r. ⌜ r ≡ baseZero pins ⌝ }
+// What the control pins go down by, where m is the least pin.
+pub(crate) fn control_least(m: u8, pins: SdrrPins) -> u8
+    ensures { λ r. ⌜ r ≡ pick (has24 pins) m 0 ⌝ }
 {
-    let m = least_pin(pins);
-    let k = pick_num(pins.rom_pins == 24, m, 0);
+    pick_num(pins.rom_pins == 24, m, 0)
+}
+
+// The address pins go down by m, the control pins by k.
+pub(crate) fn lowered_by(m: u8, k: u8, pins: SdrrPins) -> SdrrPins
+    ensures { λ r. ⌜ r ≡ loweredBy m k pins ⌝ }
+{
     let a = pins.addr;
     let addr = lower_all(m, a);
     let mut p = pins;
@@ -82,4 +89,11 @@ pub fn base_zero(pins: SdrrPins) -> SdrrPins
     p.ce = lower(k, pins.ce);
     p.oe = lower(k, pins.oe);
     p
+}
+
+pub fn base_zero(pins: SdrrPins) -> SdrrPins
+    ensures { λ r. ⌜ r ≡ baseZero pins ⌝ }
+{
+    let m = least_pin(pins);
+    lowered_by(m, control_least(m, pins), pins)
 }

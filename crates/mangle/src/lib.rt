@@ -111,10 +111,11 @@ pub fn mangle_core(
 ) -> Mangled
     ensures { λ r. ⌜ r ≡ mangleCore pins «rom_count» «rom_type» address «cs_set» ⌝ }
 {
-    let p = base::base_zero(pins);
+    let m = base::least_pin(pins);
+    let p = base::lowered_by(m, base::control_least(m, pins), pins);
     let addr = pins.addr;
     let word = input_word(rom_type, rom_count, levels(cs_set), address);
-    let a = map::address_pins(base::least_pin(pins), addr, word);
+    let a = map::address_pins(m, addr, word);
     let controls = [p.cs1, p.cs2, p.cs3, p.oe, p.ce];
     map::mangle_word(a, p.x1, p.x2, controls, rom_count, rom_type, address, word)
 }

@@ -17,7 +17,7 @@ ghost use Rattle.le.specs.Choice.{pick};
 ghost use Rattle.mangle.specs.BaseZero.{lowered};
 ghost use Rattle.mangle.specs.Rules.{isBit};
 ghost use Rattle.mangle.specs.PinMap.{off, controlOff};
-ghost use Rattle.mangle.specs.Words.{onPin, placed, isHighPin, onX, onControl, onControls, wordNumber, wholeWord, mangleWord};
+ghost use Rattle.mangle.specs.Words.{onPin, stepPin, placed, isHighPin, onX, onControl, onControls, wordNumber, wholeWord, mangleWord};
 
 // Pin of v at level b; a pin past the sixteen is left out.
 fn put(v: u32, pin: u8, b: u32) -> u32
@@ -31,20 +31,41 @@ fn put(v: u32, pin: u8, b: u32) -> u32
     }
 }
 
-// The word's bits on the address pins, which are lowered by m first.
+// Bit i of the word on a pin.
+fn one_pin(s: Placed, pin: u8, word: u32, i: u8) -> Placed
+    requires { ⌜ (s .value < 65536) × (s .mapped < 65536) ⌝ }
+    ensures reply { λ r. ⌜ r ≡ stepPin s pin word i ⌝ }
+    ensures below { λ r. ⌜ (r .value < 65536) × (r .mapped < 65536) ⌝ }
+{
+    let value = put(s.value, pin, bit_of(word, i));
+    let mapped = put(s.mapped, pin, bit_of(0xFFFFFFFF, i));
+    Placed { value, mapped }
+}
+
+// The word's bits on the address pins, which are lowered by m first. Written out: a loop of sixteen is not unrolled.
 pub(crate) fn address_pins(m: u8, addr: [u8; 16], word: u32) -> Placed
     ensures { λ r. ⌜ r ≡ placed (map (lowered m) addr) word ⌝ }
 {
-    let mut value: u32 = 0;
-    let mut mapped: u32 = 0;
-    let mut i: usize = 0;
-    while i < 16 {
-        let pin = lower(m, addr[i]);
-        value = put(value, pin, bit_of(word, i as u8));
-        mapped = put(mapped, pin, bit_of(0xFFFFFFFF, i as u8));
-        i += 1;
-    }
-    Placed { value, mapped }
+    let s0 = Placed {
+        value: 0,
+        mapped: 0,
+    };
+    let s1 = one_pin(s0, lower(m, addr[0]), word, 0);
+    let s2 = one_pin(s1, lower(m, addr[1]), word, 1);
+    let s3 = one_pin(s2, lower(m, addr[2]), word, 2);
+    let s4 = one_pin(s3, lower(m, addr[3]), word, 3);
+    let s5 = one_pin(s4, lower(m, addr[4]), word, 4);
+    let s6 = one_pin(s5, lower(m, addr[5]), word, 5);
+    let s7 = one_pin(s6, lower(m, addr[6]), word, 6);
+    let s8 = one_pin(s7, lower(m, addr[7]), word, 7);
+    let s9 = one_pin(s8, lower(m, addr[8]), word, 8);
+    let s10 = one_pin(s9, lower(m, addr[9]), word, 9);
+    let s11 = one_pin(s10, lower(m, addr[10]), word, 10);
+    let s12 = one_pin(s11, lower(m, addr[11]), word, 11);
+    let s13 = one_pin(s12, lower(m, addr[12]), word, 12);
+    let s14 = one_pin(s13, lower(m, addr[13]), word, 13);
+    let s15 = one_pin(s14, lower(m, addr[14]), word, 14);
+    one_pin(s15, lower(m, addr[15]), word, 15)
 }
 
 fn is_high_pin(v: u32, pin: u8) -> bool

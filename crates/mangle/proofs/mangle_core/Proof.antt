@@ -1,20 +1,24 @@
 use native.Mathlib.Omega.{arith}
 use borrow.Author.Needs.{needs}
+use Rattle.mangle.specs.BaseZero.{baseZero}
 use Rattle.mangle.specs.WordLaws.{pins-lt, word-core}
 use Rattle.mangle.proofs.mangle_core.Statement.{statement}
 use Rattle.mangle.proofs.mangle_core.Tie as tie
 
-base-zero-requires : tie.Need-base-zero-requires
-base-zero-requires c κs = search needs
+least-pin-requires : tie.Need-least-pin-requires
+least-pin-requires c κs = search needs
+
+control-least-requires : tie.Need-control-least-requires
+control-least-requires c κs = search needs
+
+lowered-by-requires : tie.Need-lowered-by-requires
+lowered-by-requires c κs = search needs
 
 levels-requires : tie.Need-levels-requires
 levels-requires c κs = search needs
 
 input-word-requires : tie.Need-input-word-requires
 input-word-requires c κs = search needs
-
-least-pin-requires : tie.Need-least-pin-requires
-least-pin-requires c κs = search needs
 
 address-pins-requires : tie.Need-address-pins-requires
 address-pins-requires c κs = search needs
@@ -23,20 +27,23 @@ mangle-word-requires : tie.Need-mangle-word-requires
 mangle-word-requires c κs = rw (c .address-pins .ensures) (pins-lt _ 0 _ 0 (omega arith))
 
 returns : tie.Need-returns
+unfolding baseZero
 returns c =
-    let w = c .before .before .before in
-    let a = w .before .before .before .before .args in
-    rw (c .mangle-word .ensures, c .before .address-pins .ensures, c .before .before .least-pin .ensures, w .input-word .ensures, w .before .levels .ensures, w .before .before .before .base-zero .ensures)
+    let w = c .before .before in
+    let l = w .before .before .before in
+    let a = l .before .before .before .args in
+    rw (c .mangle-word .ensures, c .before .address-pins .ensures, w .input-word .ensures, w .before .levels .ensures, l .lowered-by .ensures, l .before .control-least .ensures, l .before .before .least-pin .ensures)
     (word-core (a .pins) (a .rom-count) (a .rom-type) (a .address) (a .cs-set))
 
 pub mangle-core-spec : {M : Type 1} → statement M
 mangle-core-spec =
     tie.close
     (tie.spec
-    base-zero-requires
+    least-pin-requires
+    control-least-requires
+    lowered-by-requires
     levels-requires
     input-word-requires
-    least-pin-requires
     address-pins-requires
     mangle-word-requires
     returns)

@@ -11,11 +11,12 @@ A record of stdin is its length and then, packed (see `packed`), ten words, the 
     76  flash base, CS0 base, line, set words, ROM words, image length, calls, sets served, pins number; the pins' 88 bytes, the rows, the calls
         Calls on a report and rows as lent. One line.
 A call is 16 bytes: kind, levels (five digits to base 3, CS1 the lowest), u16 length, set, address, count. tests/data/boards-vectors.xz and
-lent-vectors.xz are answers of another reader of document 01; where the two differ, this script stops.
+lent-vectors.xz are answers of another reader of document 01, the boards of oracle-sample.txt the Rust's; where one differs from opening.py, this
+script stops.
 """
 import os, struct
 
-import cases, given, opening
+import cases, given, opening, oracle
 from opening import KINDS, NONE
 
 TOP = os.path.join(os.path.dirname(os.path.abspath(__file__)), "..", "..")
@@ -154,6 +155,20 @@ def cuts_of(o, size, every):
     return "all" if every else sorted({0, size} | {k for at, n in o.image.spans for k in (at + n - 1, at + n)})
 
 
+def the_rusts(out):
+    """The boards and calls that the Rust answered (docs/ORACLE.md)."""
+    for image, settings, set_words, rom_words, answer, asked in oracle.boards():
+        o = opening.opening(image, settings, set_words, rom_words)
+        rows = [[w for row in rows for w in row] for rows in (o.sets, o.roms)]
+        assert (o.number, *((list(o.words), *rows) if o.number == 0 else ([], [], []))) == answer, (settings, answer)
+        calls = [opening.Call(*words) for words, _ in asked]
+        lent = opening.lent_of(o, settings, set_words, rom_words)
+        for c, (_, reply) in zip(calls, asked):
+            assert tuple(c.answer(lent, image)) == reply, (settings, vars(c), reply)
+        # A length has 16 bits in a record; the one call that asks for more, refused with 81 by both, is left out.
+        out.board(image, settings, set_words, rom_words, [c for c in calls if c.n < 65536], opened=o)
+
+
 def main():
     out = Out()
     for i, (image, settings, set_words, rom_words, o, calls) in enumerate(given.boards()):
@@ -163,6 +178,9 @@ def main():
     for image, lent, cs in given.lent():
         out.lent(image, lent, cs)
     print("the other reader's lent rows agree:", out.records - records, "reports,", out.calls - calls, "calls")
+    records, calls = out.records, out.calls
+    the_rusts(out)
+    print("the Rust's boards agree:", out.records - records, "boards,", out.calls - calls, "calls")
     for name, boards in cases.GROUPS:
         records, calls, cuts = out.records, out.calls, out.cuts
         for case in boards():

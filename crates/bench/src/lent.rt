@@ -1,0 +1,107 @@
+// The rows of an opened board: what is looked up in them, and what reads go by.
+use fw_parser::SdrrInfo;
+use fw_parser::Settings;
+use rom_reads::Board;
+use text::Text;
+ghost use mathlib.Core.Path.{_≡_};
+ghost use lib.ListN.{length};
+
+// Rows for 255 sets of eight words, and for 4,096 ROMs of seven. The contracts give the lengths alone.
+pub(crate) fn set_space() -> [u32; 2040]
+    ensures { λ r. ⌜ 2040 ≡ length r ⌝ }
+{
+    [0; 2040]
+}
+
+pub(crate) fn rom_space() -> [u32; 28672]
+    ensures { λ r. ⌜ 28672 ≡ length r ⌝ }
+{
+    [0; 28672]
+}
+
+// A word of a ROM row; 0 past the end.
+pub(crate) fn rom_word(rom_rows: &[u32], row: u32, word: u8) -> u32 {
+    let at = 7 * (row as usize) + word as usize;
+    if rom_rows.len() <= at {
+        return 0;
+    }
+    rom_rows[at]
+}
+
+// A ROM's name: its part of the dump, or the number of why it is missing.
+pub(crate) fn name_of(rom_rows: &[u32], row: u32) -> Text {
+    Text {
+        number: (rom_word(rom_rows, row, 6) % 256) as u8,
+        offset: rom_word(rom_rows, row, 4),
+        length: rom_word(rom_rows, row, 5),
+    }
+}
+
+// The row of a set's ROM k.
+pub(crate) fn rom_row(set_rows: &[u32], set: u32, k: u32) -> u32 {
+    let first = rows::set_word(set_rows, set, 2);
+    if 4294967295 - k < first {
+        return 4294967295;
+    }
+    first + k
+}
+
+pub(crate) fn first_type(set_rows: &[u32], rom_rows: &[u32], set: u32) -> u32 {
+    rom_word(rom_rows, rom_row(set_rows, set, 0), 0)
+}
+
+pub(crate) fn board(settings: Settings, info: SdrrInfo) -> Board {
+    let fields = info.fields;
+    let line = fields.stm_line;
+    let pins = info.pins;
+    let sets = info.rom_sets;
+    Board {
+        flash_base: settings.flash_base,
+        cs0_base: settings.cs0_base,
+        line,
+        pins,
+        served: sets.served,
+    }
+}
+
+// Reads the byte at an offset of a set, or no byte where the set is empty: 0, or the number of the refusal.
+fn touch(
+    image: &[u8],
+    board: Board,
+    set_rows: &[u32],
+    set: u32,
+    offset: u32,
+    is_empty: bool,
+) -> u8 {
+    let mut one = [0u8; 1];
+    if is_empty {
+        let none = rom_reads::read_rom_set_data(
+            image,
+            board,
+            set_rows,
+            set,
+            offset,
+            &mut one[..0],
+            0,
+        );
+        return none.number;
+    }
+    let r = rom_reads::read_rom_set_data(image, board, set_rows, set, offset, &mut one, 0);
+    r.number
+}
+
+// Whether the dump holds all of a set's bytes: it does if it holds the first and the last. 0, or the refusal's number.
+pub(crate) fn data_number(image: &[u8], board: Board, set_rows: &[u32], set: u32) -> u8 {
+    let size = rom_reads::get_rom_set_size(board.served, set_rows, set);
+    if size.number != 0 {
+        return size.number;
+    }
+    let first = touch(image, board, set_rows, set, 0, size.value == 0);
+    if first != 0 {
+        return first;
+    }
+    if size.value == 0 {
+        return 0;
+    }
+    touch(image, board, set_rows, set, size.value - 1, false)
+}

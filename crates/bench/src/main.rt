@@ -1,0 +1,130 @@
+// The bench: what the flash of a One ROM board holds, for a person or a script; and the bytes of its sets.
+mod args; // the command line
+mod words; // words and numbers in it
+mod levels; // LEVELS
+mod file; // the dump
+mod lent; // the rows of an opened board
+mod say; // words and numbers on a descriptor
+mod names; // the names of what a board can have
+mod meaning; // numbers in plain words
+mod form; // lines with numbers in them
+mod refuse; // why there is no answer
+mod numbers; // what records hold, as numbers
+mod report; // the report, but the sets
+mod sets; // the sets in it
+mod same; // which sets are the same
+mod reads; // bytes of a set
+mod help;
+
+use args::Request;
+use fw_parser::SdrrInfo;
+use libc::STDOUT_FILENO;
+ghost use mathlib.Core.Path.{_≡_};
+ghost use lib.ListN.{length};
+
+// 2 MiB. The contract gives the length alone, so that no caller's proof computes the list.
+fn image_space() -> [u8; 2097152]
+    ensures { λ r. ⌜ 2097152 ≡ length r ⌝ }
+{
+    [0; 2097152]
+}
+
+fn heading(request: Request, length: usize) {
+    let n = (length % 4294967296) as u32;
+    if !request.machine {
+        file::name(STDOUT_FILENO, request.file);
+    }
+    form::told(
+        request.machine,
+        b": a One ROM board, %d bytes\n",
+        b"ok\ndump.bytes %d\n",
+        &[n],
+    );
+}
+
+fn whole_report(
+    request: Request,
+    image: &[u8],
+    info: SdrrInfo,
+    set_rows: &[u32],
+    rom_rows: &[u32],
+) {
+    let settings = args::settings(request);
+    let board = lent::board(settings, info);
+    let item = info.rom_sets;
+    heading(request, image.len());
+    report::records(request.machine, image, info);
+    let m = info.metadata;
+    let is_lost = report::lacks_metadata(m);
+    let is_cut = sets::sets(
+        request.machine,
+        image,
+        board,
+        item,
+        is_lost,
+        set_rows,
+        rom_rows,
+    );
+    report::end_note(request.machine, info, is_cut);
+}
+
+fn answer(request: Request, image: &[u8], info: SdrrInfo, set_rows: &[u32], rom_rows: &[u32]) {
+    let settings = args::settings(request);
+    let board = lent::board(settings, info);
+    let command = request.command;
+    if command == args::READ {
+        reads::read(request, image, board, set_rows, rom_rows);
+    } else if command == args::RAW {
+        reads::raw(request, image, board, set_rows);
+    } else if command == args::BYTE {
+        reads::byte(request, image, board, set_rows, rom_rows);
+    } else {
+        whole_report(request, image, info, set_rows, rom_rows);
+    }
+}
+
+// An empty file is refused by the library with 2; for a person there are clearer words. Otherwise 2 is about the header.
+fn refused_opening(request: Request, number: u8, length: usize) {
+    let is_plain = le::both(length == 0, !request.machine);
+    let n = if is_plain { 114 } else { number };
+    if n == 2 {
+        refuse::part(request, n, b", info header", &[]);
+    } else {
+        refuse::part(request, n, b"", &[]);
+    }
+}
+
+fn open(request: Request, image: &[u8]) {
+    let mut set_rows = lent::set_space();
+    let mut rom_rows = lent::rom_space();
+    let settings = args::settings(request);
+    let opening = fw_parser::parse_flash(image, settings, &mut set_rows, &mut rom_rows);
+    if opening.number != 0 {
+        refused_opening(request, opening.number, image.len());
+        return;
+    }
+    let info = opening.info;
+    answer(request, image, info, &set_rows, &rom_rows);
+}
+
+fn run(request: Request) {
+    let mut image = image_space();
+    let loaded = file::load(request.file, &mut image);
+    let n = loaded.length;
+    if loaded.number != 0 {
+        refuse::part(request, loaded.number, b"", &[]);
+        return;
+    }
+    open(request, &image[..n]);
+}
+
+fn main() {
+    let request = args::parse();
+    if request.number != 0 {
+        refuse::arguments(request);
+    } else if request.command == args::HELP {
+        help::help();
+    } else {
+        run(request);
+    }
+}

@@ -1,0 +1,153 @@
+// What the report's records hold, as numbers for a form.
+use extra_info::FirePioDefault;
+use extra_info::SdrrExtraInfo;
+use header::SdrrInfoFields;
+use pins::SdrrPins;
+use types::McuLine;
+use types::McuStorage;
+use types::SdrrMcuPort;
+
+fn line(l: McuLine) -> u32 {
+    match l {
+        McuLine::F401DE => 0,
+        McuLine::F405 => 1,
+        McuLine::F411 => 2,
+        McuLine::F446 => 3,
+        McuLine::F401BC => 4,
+        McuLine::Rp2350 => 5,
+    }
+}
+
+fn storage(s: McuStorage) -> u32 {
+    match s {
+        McuStorage::Storage8 => 0,
+        McuStorage::StorageB => 1,
+        McuStorage::StorageC => 2,
+        McuStorage::StorageD => 3,
+        McuStorage::StorageE => 4,
+        McuStorage::StorageF => 5,
+        McuStorage::StorageG => 6,
+        McuStorage::Storage2MB => 7,
+    }
+}
+
+fn port(p: SdrrMcuPort) -> u32 {
+    match p {
+        SdrrMcuPort::None => 0,
+        SdrrMcuPort::PortA => 1,
+        SdrrMcuPort::PortB => 2,
+        SdrrMcuPort::PortC => 3,
+        SdrrMcuPort::PortD => 4,
+        SdrrMcuPort::Port0 => 5,
+    }
+}
+
+fn pio(p: FirePioDefault) -> u32 {
+    match p {
+        FirePioDefault::Given(on) => on as u32,
+        FirePioDefault::NotGiven => 2,
+    }
+}
+
+fn wide(b: u8) -> u32 {
+    b as u32
+}
+
+// The version's four numbers, the line, the storage twice, the frequency.
+pub(crate) fn firmware(f: SdrrInfoFields) -> [u32; 8] {
+    let v = f.version;
+    let l = f.stm_line;
+    let s = f.stm_storage;
+    let k = storage(s);
+    [
+        v.major as u32,
+        v.minor as u32,
+        v.patch as u32,
+        v.build as u32,
+        line(l),
+        k,
+        k,
+        f.freq as u32,
+    ]
+}
+
+// The eight flags, then the boot config's four bytes.
+pub(crate) fn flags(f: SdrrInfoFields) -> [u32; 12] {
+    let b = f.boot_config;
+    [
+        f.overclock as u32,
+        f.swd_enabled as u32,
+        f.preload_image_to_ram as u32,
+        f.bootloader_capable as u32,
+        f.status_led_enabled as u32,
+        f.boot_logging_enabled as u32,
+        f.mco_enabled as u32,
+        f.count_rom_access as u32,
+        wide(b[0]),
+        wide(b[1]),
+        wide(b[2]),
+        wide(b[3]),
+    ]
+}
+
+pub(crate) fn extra(e: SdrrExtraInfo) -> [u32; 6] {
+    let usb = e.usb_port;
+    let p = e.fire_pio_default;
+    [
+        e.usb_dfu as u32,
+        port(usb),
+        wide(e.vbus_pin),
+        pio(p),
+        e.rtt_ptr,
+        e.runtime_info_ptr,
+    ]
+}
+
+// The ROM's pins, then the ports: data, address, CS, select, status.
+pub(crate) fn ports(p: SdrrPins) -> [u32; 6] {
+    let data = p.data_port;
+    let addr = p.addr_port;
+    let cs = p.cs_port;
+    let sel = p.sel_port;
+    let status = p.status_port;
+    [
+        wide(p.rom_pins),
+        port(data),
+        port(addr),
+        port(cs),
+        port(sel),
+        port(status),
+    ]
+}
+
+// CS1 to CS3, X1, X2, CE, OE, the status pin.
+pub(crate) fn controls(p: SdrrPins) -> [u32; 8] {
+    [
+        wide(p.cs1),
+        wide(p.cs2),
+        wide(p.cs3),
+        wide(p.x1),
+        wide(p.x2),
+        wide(p.ce),
+        wide(p.oe),
+        wide(p.status),
+    ]
+}
+
+// The seven select pins, the pulls of X and of the select pins, SWCLK, SWDIO, extended.
+pub(crate) fn selects(p: SdrrPins) -> [u32; 12] {
+    [
+        wide(p.sel0),
+        wide(p.sel1),
+        wide(p.sel2),
+        wide(p.sel3),
+        wide(p.sel4),
+        wide(p.sel5),
+        wide(p.sel6),
+        wide(p.x_jumper_pull),
+        wide(p.sel_jumper_pull),
+        wide(p.swclk_sel),
+        wide(p.swdio_sel),
+        wide(p.extended),
+    ]
+}

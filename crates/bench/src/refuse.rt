@@ -1,0 +1,52 @@
+// Why there is no answer, in one line.
+use super::args::Request;
+use super::args::is_bytes;
+use super::file;
+use super::form::form;
+use super::say;
+use libc::STDERR_FILENO;
+use libc::STDOUT_FILENO;
+
+// For a script: on standard error where the standard output is for bytes.
+fn for_script(request: Request, n: u32) {
+    let to = if is_bytes(request) {
+        STDERR_FILENO
+    } else {
+        STDOUT_FILENO
+    };
+    form(to, b"refused %d\nreason %w\n", &[n, n]);
+}
+
+// For a person: what it is about, then the words. A number of document 01 is shown beside them.
+fn for_person(about: usize, n: u32, of: &[u8], numbers: &[u32]) {
+    say::text(STDERR_FILENO, b"bench: ");
+    if n != 100 {
+        file::name(STDERR_FILENO, about);
+        form(STDERR_FILENO, of, numbers);
+        say::text(STDERR_FILENO, b": ");
+    }
+    if n < 100 {
+        form(STDERR_FILENO, b"refused with %d: ", &[n]);
+    }
+    form(STDERR_FILENO, b"%w\n", &[n]);
+}
+
+// Something of the file is refused: a form and its numbers say what.
+pub(crate) fn part(request: Request, number: u8, of: &[u8], numbers: &[u32]) {
+    let n = number as u32;
+    if request.machine {
+        for_script(request, n);
+    } else {
+        for_person(request.file, n, of, numbers);
+    }
+}
+
+// The command line is not understood.
+pub(crate) fn arguments(request: Request) {
+    let n = request.number as u32;
+    if request.machine {
+        for_script(request, n);
+    } else {
+        for_person(request.about, n, b"", &[]);
+    }
+}

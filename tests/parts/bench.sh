@@ -1,0 +1,48 @@
+# The program `bench` on the sample boards and on bad input. tests/bench/check.py says what each part compares.
+
+# bench_part NAME
+bench_part() {
+    command -v python3 >/dev/null || { echo "bench's $1 not compared: there is no python3"; return 0; }
+    python3 -B tests/bench/check.py "$1"
+}
+
+test_bench_stored_outputs() {
+    bench_part stored
+}
+
+test_bench_facts_are_the_generators() {
+    bench_part facts
+}
+
+test_bench_reads_are_the_roms_text() {
+    bench_part reads
+}
+
+test_bench_numbers_in_plain_words() {
+    bench_part numbers
+}
+
+test_bench_settings() {
+    bench_part settings
+}
+
+test_bench_readme_is_real() {
+    bench_part readme
+}
+
+# The gate runs the program in a folder of its own, with a copy of the sample.
+test_bench_sample_is_the_sample() {
+    cmp crates/bench/data/samples/rp2350.img samples/rp2350.img
+}
+
+# The help is one screen.
+test_bench_help_fits_a_screen() {
+    [ "$(target/bin/bench help | wc -l)" -le 24 ] && [ "$(target/bin/bench help | wc -L)" -le 80 ]
+}
+
+# The first command of the README: from any folder, a file is looked for from where the caller stands.
+test_bench_command() {
+    ./bench | cmp - crates/bench/stdout &&
+        (cd samples && ../bench rp2350.img) | tail -n +2 | cmp - <(tail -n +2 crates/bench/stdout) &&
+        (cd docs && ../bench raw 0) | cmp - <(target/bin/bench raw 0)
+}

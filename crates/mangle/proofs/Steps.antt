@@ -88,23 +88,25 @@ unfolding allBelow
 below-end n i ps h = rw (drop-of-length-le ps h)
 
 -- one more control pin
-pub off-on : (ps bs : List ℕ) (i : ℕ) → i < length ps → i < length bs
-    → controlOff (drop i ps) (drop i bs) ≡ ((isBit (getD bs i 0) && off (getD ps i 0)) || controlOff (drop (i + 1) ps) (drop (i + 1) bs))
+pub off-on : (f : ℕ → ℕ) (ps bs : List ℕ) (i : ℕ) → i < length ps → i < length bs
+    → controlOff (map f (drop i ps)) (drop i bs)
+    ≡ ((isBit (getD bs i 0) && off (f (getD ps i 0))) || controlOff (map f (drop (i + 1) ps)) (drop (i + 1) bs))
 unfolding controlOff
-off-on ps bs i h k = rw (add-one i, drop-cons ps i 0, drop-cons bs i 0)
+off-on f ps bs i h k = rw (add-one i, drop-cons ps i 0, drop-cons bs i 0)
 
-pub off-end : (ps bs : List ℕ) (i : ℕ) → length ps ≤ i → controlOff (drop i ps) (drop i bs) ≡ false
+pub off-end : (f : ℕ → ℕ) (ps bs : List ℕ) (i : ℕ) → length ps ≤ i → controlOff (map f (drop i ps)) (drop i bs) ≡ false
 unfolding controlOff
-off-end ps bs i h = rw (drop-of-length-le ps h)
+off-end f ps bs i h = rw (drop-of-length-le ps h)
 
-pub control-on : (ps bs : List ℕ) (i w v : ℕ) → i < length ps → i < length bs
-    → onControls (drop i ps) (drop i bs) w v ≡ onControls (drop (i + 1) ps) (drop (i + 1) bs) w (onControl v (getD ps i 0) (getD bs i 0) w)
+pub control-on : (f : ℕ → ℕ) (ps bs : List ℕ) (i w v : ℕ) → i < length ps → i < length bs
+    → onControls (map f (drop i ps)) (drop i bs) w v
+    ≡ onControls (map f (drop (i + 1) ps)) (drop (i + 1) bs) w (onControl v (f (getD ps i 0)) (getD bs i 0) w)
 unfolding onControls
-control-on ps bs i w v h k = rw (add-one i, drop-cons ps i 0, drop-cons bs i 0)
+control-on f ps bs i w v h k = rw (add-one i, drop-cons ps i 0, drop-cons bs i 0)
 
-pub control-end : (ps bs : List ℕ) (i w v : ℕ) → length ps ≤ i → onControls (drop i ps) (drop i bs) w v ≡ v
+pub control-end : (f : ℕ → ℕ) (ps bs : List ℕ) (i w v : ℕ) → length ps ≤ i → onControls (map f (drop i ps)) (drop i bs) w v ≡ v
 unfolding onControls
-control-end ps bs i w v h = rw (drop-of-length-le ps h)
+control-end f ps bs i w v h = rw (drop-of-length-le ps h)
 
 -- one more level
 pub raised-on : (ds : List ℕ) (ls : List Bool) (w i : ℕ) → i < length ds → i < length ls

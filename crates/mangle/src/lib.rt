@@ -112,12 +112,22 @@ pub fn mangle_core(
     ensures { λ r. ⌜ r ≡ mangleCore pins «rom_count» «rom_type» address «cs_set» ⌝ }
 {
     let m = base::least_pin(pins);
-    let p = base::lowered_by(m, base::control_least(m, pins), pins);
+    let k = base::control_least(m, pins);
     let addr = pins.addr;
     let word = input_word(rom_type, rom_count, levels(cs_set), address);
     let a = map::address_pins(m, addr, word);
-    let controls = [p.cs1, p.cs2, p.cs3, p.oe, p.ce];
-    map::mangle_word(a, p.x1, p.x2, controls, rom_count, rom_type, address, word)
+    let controls = [pins.cs1, pins.cs2, pins.cs3, pins.oe, pins.ce];
+    map::mangle_word(
+        k,
+        a,
+        pins.x1,
+        pins.x2,
+        controls,
+        rom_count,
+        rom_type,
+        address,
+        word,
+    )
 }
 
 fn all_below(n: u8, pins: &[u8]) -> bool

@@ -1,16 +1,15 @@
 // The sixteen pins (info.rs `mangle_address`), as the bits of a word. The map of pins is not made: each bit is put on its pin at once, over
-// the bit of an earlier one.
+// the bit of an earlier one. A pin is lowered where it is used: address pins by m, the others by k.
 use super::Mangled;
 use super::Placed;
 use super::base::lower;
 use super::bits::bit_of;
 use super::rules::control_bits;
 use super::rules::rules_of;
-use le::both;
 use le::either;
 use types::SdrrRomType;
 ghost use mathlib.Core.Path.{_≡_};
-ghost use mathlib.Core.Bool.{_&&_};
+ghost use mathlib.Core.Bool.{_&&_, _||_};
 ghost use mathlib.Core.List.{map};
 ghost use Prim.Native.Nat.{_<_};
 ghost use Rattle.le.specs.Choice.{pick};
@@ -74,27 +73,27 @@ fn is_high_pin(v: u32, pin: u8) -> bool
     bit_of(v, pin) == 1
 }
 
-fn with_x(v: u32, x1: u8, x2: u8, word: u32) -> u32
+fn with_x(k: u8, v: u32, x1: u8, x2: u8, word: u32) -> u32
     requires { ⌜ v < 65536 ⌝ }
-    ensures { λ r. ⌜ r ≡ onX v x1 x2 word ⌝ }
+    ensures { λ r. ⌜ r ≡ onX v (lowered k x1) (lowered k x2) word ⌝ }
 {
-    let one = put(v, x1, bit_of(word, 14));
-    put(one, x2, bit_of(word, 15))
+    let one = put(v, lower(k, x1), bit_of(word, 14));
+    put(one, lower(k, x2), bit_of(word, 15))
 }
 
 // Whether the type uses the control pin and it is no pin of the sixteen.
-fn is_off(pin: u8, bit: u8) -> bool
-    ensures { λ r. ⌜ r ≡ (isBit bit && off pin) ⌝ }
+fn is_off(k: u8, pin: u8, bit: u8) -> bool
+    ensures { λ r. ⌜ r ≡ (isBit bit && off (lowered k pin)) ⌝ }
 {
-    both(bit < 32, 16 <= pin)
+    if bit < 32 { 16 <= lower(k, pin) } else { false }
 }
 
-fn control_off(controls: [u8; 5], bits: [u8; 5]) -> bool
-    ensures { λ r. ⌜ r ≡ controlOff controls bits ⌝ }
+fn control_off(k: u8, controls: [u8; 5], bits: [u8; 5]) -> bool
+    ensures { λ r. ⌜ r ≡ controlOff (map (lowered k) controls) bits ⌝ }
 {
     let mut i: usize = 0;
     while i < 5 {
-        if is_off(controls[i], bits[i]) {
+        if is_off(k, controls[i], bits[i]) {
             return true;
         }
         i += 1;
@@ -103,25 +102,25 @@ fn control_off(controls: [u8; 5], bits: [u8; 5]) -> bool
 }
 
 // The control pin takes its input bit, if it has one.
-fn put_control(v: u32, pin: u8, bit: u8, word: u32) -> u32
+fn put_control(k: u8, v: u32, pin: u8, bit: u8, word: u32) -> u32
     requires { ⌜ v < 65536 ⌝ }
-    ensures { λ r. ⌜ r ≡ onControl v pin bit word ⌝ }
+    ensures { λ r. ⌜ r ≡ onControl v (lowered k pin) bit word ⌝ }
 {
     if bit < 32 {
-        put(v, pin, bit_of(word, bit))
+        put(v, lower(k, pin), bit_of(word, bit))
     } else {
         v
     }
 }
 
-fn with_controls(v: u32, controls: [u8; 5], bits: [u8; 5], word: u32) -> u32
+fn with_controls(k: u8, v: u32, controls: [u8; 5], bits: [u8; 5], word: u32) -> u32
     requires { ⌜ v < 65536 ⌝ }
-    ensures { λ r. ⌜ r ≡ onControls controls bits word v ⌝ }
+    ensures { λ r. ⌜ r ≡ onControls (map (lowered k) controls) bits word v ⌝ }
 {
     let mut w = v;
     let mut i: usize = 0;
     while i < 5 {
-        w = put_control(w, controls[i], bits[i], word);
+        w = put_control(k, w, controls[i], bits[i], word);
         i += 1;
     }
     w
@@ -146,8 +145,31 @@ fn first_of(x_off: bool, x_taken: bool, no_rom: bool, unsupported: bool, control
     if control_off { 76 } else { 0 }
 }
 
+// X1 or X2 is no pin of the sixteen.
+fn x_off(several: bool, x1: u8, x2: u8) -> bool
+    ensures { λ r. ⌜ r ≡ (several && (off x1 || off x2)) ⌝ }
+{
+    if several {
+        either(16 <= x1, 16 <= x2)
+    } else {
+        false
+    }
+}
+
+// X1 or X2 has an address bit on it.
+fn x_taken(several: bool, mapped: u32, x1: u8, x2: u8) -> bool
+    ensures { λ r. ⌜ r ≡ (several && (isHighPin mapped x1 || isHighPin mapped x2)) ⌝ }
+{
+    if several {
+        either(is_high_pin(mapped, x1), is_high_pin(mapped, x2))
+    } else {
+        false
+    }
+}
+
 // X1 and X2 are tested before either is written.
 fn map_number(
+    k: u8,
     mapped: u32,
     x1: u8,
     x2: u8,
@@ -155,21 +177,21 @@ fn map_number(
     rom_count: u32,
     rom_type: SdrrRomType,
 ) -> u8
-    ensures { λ r. ⌜ r ≡ wordNumber mapped x1 x2 controls «rom_count» «rom_type» ⌝ }
+    ensures { λ r. ⌜ r ≡ wordNumber mapped (lowered k x1) (lowered k x2) (map (lowered k) controls) «rom_count» «rom_type» ⌝ }
 {
     let several = 2 <= rom_count;
     let r = rules_of(rom_type);
-    let x_off = both(several, either(16 <= x1, 16 <= x2));
-    let x_taken = both(
-        several,
-        either(is_high_pin(mapped, x1), is_high_pin(mapped, x2)),
-    );
-    let off = control_off(controls, control_bits(rom_type));
-    first_of(x_off, x_taken, rom_count == 0, !r.supported, off)
+    let p1 = lower(k, x1);
+    let p2 = lower(k, x2);
+    let off = x_off(several, p1, p2);
+    let taken = x_taken(several, mapped, p1, p2);
+    let controls_off = control_off(k, controls, control_bits(rom_type));
+    first_of(off, taken, rom_count == 0, !r.supported, controls_off)
 }
 
 // X1 and X2 with several ROMs, then the control pins.
 fn whole_word(
+    k: u8,
     v: u32,
     x1: u8,
     x2: u8,
@@ -179,17 +201,18 @@ fn whole_word(
     word: u32,
 ) -> u32
     requires { ⌜ v < 65536 ⌝ }
-    ensures { λ r. ⌜ r ≡ wholeWord v x1 x2 controls «rom_count» «rom_type» word ⌝ }
+    ensures { λ r. ⌜ r ≡ wholeWord v (lowered k x1) (lowered k x2) (map (lowered k) controls) «rom_count» «rom_type» word ⌝ }
 {
     let bits = control_bits(rom_type);
     if 2 <= rom_count {
-        return with_controls(with_x(v, x1, x2, word), controls, bits, word);
+        return with_controls(k, with_x(k, v, x1, x2, word), controls, bits, word);
     }
-    with_controls(v, controls, bits, word)
+    with_controls(k, v, controls, bits, word)
 }
 
-// The mangled address, from the address pins as placed.
+// The mangled address, from the address pins as placed and the others as recorded.
 pub(crate) fn mangle_word(
+    k: u8,
     a: Placed,
     x1: u8,
     x2: u8,
@@ -200,15 +223,15 @@ pub(crate) fn mangle_word(
     word: u32,
 ) -> Mangled
     requires { ⌜ a .value < 65536 ⌝ }
-    ensures { λ r. ⌜ r ≡ mangleWord a x1 x2 controls «rom_count» «rom_type» address word ⌝ }
+    ensures { λ r. ⌜ r ≡ mangleWord a (lowered k x1) (lowered k x2) (map (lowered k) controls) «rom_count» «rom_type» address word ⌝ }
 {
-    let n = map_number(a.mapped, x1, x2, controls, rom_count, rom_type);
+    let n = map_number(k, a.mapped, x1, x2, controls, rom_count, rom_type);
     let number = super::mangle_number(n, rom_type, address);
     if number != 0 {
         return Mangled { number, value: 0 };
     }
     Mangled {
         number: 0,
-        value: whole_word(a.value, x1, x2, controls, rom_count, rom_type, word),
+        value: whole_word(k, a.value, x1, x2, controls, rom_count, rom_type, word),
     }
 }

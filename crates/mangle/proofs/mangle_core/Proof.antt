@@ -1,6 +1,6 @@
 use native.Mathlib.Omega.{arith}
 use borrow.Author.Needs.{needs}
-use Rattle.mangle.specs.BaseZero.{baseZero}
+use Rattle.mangle.specs.BaseZero.{baseZero, loweredBy}
 use Rattle.mangle.specs.WordLaws.{pins-lt, word-core}
 use Rattle.mangle.proofs.mangle_core.Statement.{statement}
 use Rattle.mangle.proofs.mangle_core.Tie as tie
@@ -10,9 +10,6 @@ least-pin-requires c κs = search needs
 
 control-least-requires : tie.Need-control-least-requires
 control-least-requires c κs = search needs
-
-lowered-by-requires : tie.Need-lowered-by-requires
-lowered-by-requires c κs = search needs
 
 levels-requires : tie.Need-levels-requires
 levels-requires c κs = search needs
@@ -27,12 +24,12 @@ mangle-word-requires : tie.Need-mangle-word-requires
 mangle-word-requires c κs = rw (c .address-pins .ensures) (pins-lt _ 0 _ 0 (omega arith))
 
 returns : tie.Need-returns
-unfolding baseZero
+unfolding baseZero loweredBy
 returns c =
     let w = c .before .before in
     let l = w .before .before .before in
-    let a = l .before .before .before .args in
-    rw (c .mangle-word .ensures, c .before .address-pins .ensures, w .input-word .ensures, w .before .levels .ensures, l .lowered-by .ensures, l .before .control-least .ensures, l .before .before .least-pin .ensures)
+    let a = l .before .before .args in
+    rw (c .mangle-word .ensures, c .before .address-pins .ensures, w .input-word .ensures, w .before .levels .ensures, l .control-least .ensures, l .before .least-pin .ensures)
     (word-core (a .pins) (a .rom-count) (a .rom-type) (a .address) (a .cs-set))
 
 pub mangle-core-spec : {M : Type 1} → statement M
@@ -41,7 +38,6 @@ mangle-core-spec =
     (tie.spec
     least-pin-requires
     control-least-requires
-    lowered-by-requires
     levels-requires
     input-word-requires
     address-pins-requires

@@ -6,23 +6,17 @@ use Rattle.mangle.proofs.map.map_number.Tie as tie
 rules-of-requires : tie.Need-rules-of-requires
 rules-of-requires c κs = search needs
 
-either-requires : tie.Need-either-requires
-either-requires c κs = search needs
+lower-requires : tie.Need-lower-requires
+lower-requires c κs = search needs
 
-both-requires : tie.Need-both-requires
-both-requires c κs = search needs
+lower-requires-2 : tie.Need-lower-requires-2
+lower-requires-2 c κs = search needs
 
-is-high-pin-requires : tie.Need-is-high-pin-requires
-is-high-pin-requires c κs = search needs
+x-off-requires : tie.Need-x-off-requires
+x-off-requires c κs = search needs
 
-is-high-pin-requires-2 : tie.Need-is-high-pin-requires-2
-is-high-pin-requires-2 c κs = search needs
-
-either-requires-2 : tie.Need-either-requires-2
-either-requires-2 c κs = search needs
-
-both-requires-2 : tie.Need-both-requires-2
-both-requires-2 c κs = search needs
+x-taken-requires : tie.Need-x-taken-requires
+x-taken-requires c κs = search needs
 
 control-bits-requires : tie.Need-control-bits-requires
 control-bits-requires c κs = search needs
@@ -35,19 +29,21 @@ first-of-requires c κs = search needs
 
 returns : tie.Need-returns
 unfolding wordNumber
-returns c = rw (c .first-of .ensures, c .before .before .control-off .ensures, c .before .before .before .control-bits .ensures, c .before .before .before .before .both2 .ensures, c .before .before .before .before .before .either2 .ensures, c .before .before .before .before .before .before .is-high-pin2 .ensures, c .before .before .before .before .before .before .before .is-high-pin .ensures, c .before .before .before .before .before .before .before .before .both .ensures, c .before .before .before .before .before .before .before .before .before .either .ensures, c .before .before .before .before .before .before .before .before .before .before .rules-of .ensures)
+returns c =
+    let o = c .before .before in
+    let x = o .before .before in
+    let l = x .before .before in
+    rw (c .first-of .ensures, o .control-off .ensures, o .before .control-bits .ensures, x .x-taken .ensures, x .before .x-off .ensures, l .lower2 .ensures, l .before .lower .ensures, l .before .before .rules-of .ensures)
 
 pub map-number-spec : {M : Type 1} → statement M
 map-number-spec =
     tie.close
     (tie.spec
     rules-of-requires
-    either-requires
-    both-requires
-    is-high-pin-requires
-    is-high-pin-requires-2
-    either-requires-2
-    both-requires-2
+    lower-requires
+    lower-requires-2
+    x-off-requires
+    x-taken-requires
     control-bits-requires
     control-off-requires
     first-of-requires

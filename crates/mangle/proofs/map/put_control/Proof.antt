@@ -5,23 +5,26 @@ use Rattle.mangle.specs.Words.{onControl}
 use Rattle.mangle.proofs.map.put_control.Statement.{statement}
 use Rattle.mangle.proofs.map.put_control.Tie as tie
 
+lower-requires : tie.Need-lower-requires
+lower-requires c κs = search needs
+
 bit-of-requires : tie.Need-bit-of-requires
 bit-of-requires c κs = search needs
 
 put-requires : tie.Need-put-requires
 put-requires c κs =
-    let a = c .before .before .args in
-    (c .before .before .pre, rw (c .bit-of .ensures) (taken-lt (a .word) (a .bit)))
+    let s = c .before .before .before in
+    (s .pre, rw (c .bit-of .ensures) (taken-lt (s .args .word) (s .args .bit)))
 
 returns : tie.Need-returns
 unfolding onControl
 returns c =
-    let a = c .before .before .before .args in
-    rw (lt-ltb (a .bit) 32 (c .before .before .if1 .taken), c .put .ensures, c .before .bit-of .ensures)
+    let t = c .before .before .before in
+    rw (lt-ltb (t .before .args .bit) 32 (t .if1 .taken), c .put .ensures, c .before .bit-of .ensures, c .before .before .lower .ensures)
 
 returns-2 : tie.Need-returns-2
 unfolding onControl
 returns-2 c = rw (le-ltb (c .before .args .bit) 32 (c .if1 .left))
 
 pub put-control-spec : {M : Type 1} → statement M
-put-control-spec = tie.close (tie.spec bit-of-requires put-requires returns returns-2)
+put-control-spec = tie.close (tie.spec lower-requires bit-of-requires put-requires returns returns-2)

@@ -1,5 +1,6 @@
 use borrow.Author.Needs.{needs}
 use borrow.Author.Tests.{le-leb, lt-leb}
+use Rattle.mangle.specs.BaseZero.{lowered}
 use Rattle.mangle.specs.WordLaws.{x-lt}
 use Rattle.mangle.specs.Words.{wholeWord}
 use Rattle.mangle.proofs.map.whole_word.Statement.{statement}
@@ -14,7 +15,7 @@ with-x-requires c κs = search needs
 with-controls-requires : tie.Need-with-controls-requires
 with-controls-requires c κs =
     let s = c .before .before .before in
-    rw (c .with-x .ensures) (x-lt (s .args .v) (s .args .x1) (s .args .x2) (s .args .word) (s .pre))
+    rw (c .with-x .ensures) (x-lt (s .args .v) (lowered (s .args .k) (s .args .x1)) (lowered (s .args .k) (s .args .x2)) (s .args .word) (s .pre))
 
 returns : tie.Need-returns
 unfolding wholeWord

@@ -1,0 +1,25 @@
+use borrow.Author.Needs.{needs}
+use Rattle.mangle.proofs.map.x_taken.Statement.{statement}
+use Rattle.mangle.proofs.map.x_taken.Tie as tie
+
+is-high-pin-requires : tie.Need-is-high-pin-requires
+is-high-pin-requires c κs = search needs
+
+is-high-pin-requires-2 : tie.Need-is-high-pin-requires-2
+is-high-pin-requires-2 c κs = search needs
+
+either-requires : tie.Need-either-requires
+either-requires c κs = search needs
+
+returns : tie.Need-returns
+returns c =
+    let t = c .before .before .before in
+    rw (t .if1 .taken, c .either .ensures, c .before .is-high-pin2 .ensures, c .before .before .is-high-pin .ensures)
+
+returns-2 : tie.Need-returns-2
+returns-2 c = rw (c .if1 .left)
+
+pub x-taken-spec : {M : Type 1} → statement M
+x-taken-spec =
+    tie.close
+    (tie.spec is-high-pin-requires is-high-pin-requires-2 either-requires returns returns-2)

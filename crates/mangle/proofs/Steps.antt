@@ -66,9 +66,9 @@ unfolding onPins
 rest-on f ps w i s h = rw (drop-cons ps i 0)
 
 -- what is left after a step is what was left before
-pub rest-step : (f : ℕ → ℕ) (ps : List ℕ) (w i : ℕ) (s t : Placed) (p : ℕ) → i < length ps → t ≡ stepPin s p w i → p ≡ f (getD ps i 0)
+pub rest-step : (f : ℕ → ℕ) (ps : List ℕ) (w i : ℕ) (s t : Placed) → i < length ps → t ≡ stepPin s (f (getD ps i 0)) w i
     → restOn f ps w (suc i) t ≡ restOn f ps w i s
-rest-step f ps w i s t p h d e = rw (d, e) (sym (rest-on f ps w i s h))
+rest-step f ps w i s t h d = rw d (sym (rest-on f ps w i s h))
 
 pub rest-end : (f : ℕ → ℕ) (ps : List ℕ) (w i : ℕ) (s : Placed) → length ps ≤ i → restOn f ps w i s ≡ s
 unfolding onPins

@@ -11,7 +11,7 @@ use lib.Dec.{ltb, eqb}
 use lib.ListN.{length, getD, set, length-set, List·getD-eq-default}
 use lib.Pow.{split, pow-pos, pow-lt, ones-split, ones-lt, high}
 use lib.Seq.{set-out}
-use borrow.Author.Tests.{ltb-true, ltb-false, lt-ltb, le-ltb}
+use borrow.Author.Tests.{ltb-true, ltb-false, eqb-true, eqb-false, lt-ltb, le-ltb, ne-eqb}
 use Rattle.le.specs.Choice.{pick}
 use Rattle.types.specs.declared.SdrrRomType.{SdrrRomType}
 use Rattle.types.specs.declared.SdrrCsSet.{SdrrCsSet}
@@ -71,6 +71,37 @@ pub pins-lt : (ps : List ℕ) (i w v : ℕ) → v < 65536 → onPins ps i w v < 
 unfolding onPins
 pins-lt [] i w v h = h
 pins-lt (p ∷ ps) i w v h = pins-lt ps (suc i) w (onPin v p (taken w i)) (on-lt v p (taken w i) h (taken-lt w i))
+
+-- ---- a pin against the limit, before it is lowered
+
+-- the pins below it are those of the sixteen when lowered by m
+abbrev pub limit : ℕ → ℕ
+limit m = pick (ltb m 239) (m + 16) 255
+
+limit-le : (m : ℕ) → (limit m ≤ m + 16) × (limit m ≤ 255)
+limit-le m = go (ltb m 239) refl
+  where
+    go : (c : Bool) → ltb m 239 ≡ c → (pick c (m + 16) 255 ≤ m + 16) × (pick c (m + 16) 255 ≤ 255)
+    go true e = let h = ltb-true m 239 e in (omega arith, omega arith)
+    go false e = let h = ltb-false m 239 e in (omega arith, omega arith)
+
+pub limit-in : (m p : ℕ) → p < limit m → (lowered m p ≡ p - m) × (p - m < 16)
+unfolding lowered
+limit-in m p h =
+    let l : limit m ≤ m + 16 = limit-le m .0 in
+    let k : limit m ≤ 255 = limit-le m .1 in
+    let e : eqb p 255 ≡ false = ne-eqb p 255 (λ q. omega arith) in
+    (rw e refl, omega arith)
+
+pub limit-out : (m p : ℕ) → p < 256 → limit m ≤ p → 16 ≤ lowered m p
+unfolding lowered
+limit-out m p b h = go (ltb m 239) (eqb p 255) refl refl h
+  where
+    go : (c d : Bool) → ltb m 239 ≡ c → eqb p 255 ≡ d → pick c (m + 16) 255 ≤ p → 16 ≤ pick d p (p - m)
+    go true true e f h = let k = eqb-true p 255 f in omega arith
+    go true false e f h = omega arith
+    go false true e f h = omega arith
+    go false false e f h = let k = eqb-false p 255 f in absurd (k (omega arith))
 
 -- an entry exchanged
 exchanged : (m : List ℕ) (x p e : ℕ) → p < length m
@@ -146,6 +177,10 @@ all-high e h =
     let t : (2 ^ suc (31 - e) - 1) * 2 ^ e + (2 ^ e - 1) ≡ allHigh = sym (ones-split (suc (31 - e)) e) ∙ ap (λ n. 2 ^ n - 1) s in
     let d : allHigh / 2 ^ e ≡ 2 ^ suc (31 - e) - 1 = ap (λ n. n / 2 ^ e) (sym t) ∙ high (2 ^ suc (31 - e) - 1) e (ones-lt e) in
     rw (d, pow-suc 2 (31 - e)) (let z = pow-pos (31 - e) in omega arith)
+
+pub all-taken : (i : ℕ) → i < 32 → taken allHigh i ≡ 1
+unfolding taken
+all-taken i h = rw (lt-ltb i 32 h) (all-high i h)
 
 -- a pin is high under the word of ones if an address bit is on it
 high-mapped : (m : List ℕ) (p : ℕ) → length m ≡ 16 → isHighPin (gather m allHigh) p ≡ isMapped m p

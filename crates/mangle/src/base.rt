@@ -21,7 +21,7 @@ fn least_of(ps: &[u8], m: u8) -> u8
 }
 
 // p less m, and 0 where m is the greater.
-fn less(p: u8, m: u8) -> u8
+pub(crate) fn less(p: u8, m: u8) -> u8
     ensures { λ r. ⌜ r ≡ p - m ⌝ }
 {
     if p < m { 0 } else { p - m }

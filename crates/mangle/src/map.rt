@@ -2,6 +2,7 @@
 // the bit of an earlier one. A pin is lowered where it is used: address pins by m, the others by k.
 use super::Mangled;
 use super::Placed;
+use super::base::less;
 use super::base::lower;
 use super::bits::bit_of;
 use super::rules::control_bits;
@@ -16,28 +17,44 @@ ghost use Rattle.le.specs.Choice.{pick};
 ghost use Rattle.mangle.specs.BaseZero.{lowered};
 ghost use Rattle.mangle.specs.Rules.{isBit};
 ghost use Rattle.mangle.specs.PinMap.{off, controlOff};
+ghost use Rattle.mangle.specs.WordLaws.{limit};
 ghost use Rattle.mangle.specs.Words.{onPin, stepPin, placed, isHighPin, onX, onControl, onControls, wordNumber, wholeWord, mangleWord};
+
+// Pin of v at level b.
+fn put_at(v: u32, pin: u8, b: u32) -> u32
+    requires { ⌜ (v < 65536) × (pin < 16) × (b < 2) ⌝ }
+    ensures { λ r. ⌜ r ≡ onPin v pin b ⌝ }
+{
+    v - (v & (1 << pin)) + (b << pin)
+}
 
 // Pin of v at level b; a pin past the sixteen is left out.
 fn put(v: u32, pin: u8, b: u32) -> u32
     requires { ⌜ (v < 65536) × (b < 2) ⌝ }
     ensures { λ r. ⌜ r ≡ onPin v pin b ⌝ }
 {
-    if pin < 16 {
-        v - (v & (1 << pin)) + (b << pin)
-    } else {
-        v
-    }
+    if pin < 16 { put_at(v, pin, b) } else { v }
 }
 
-// Bit i of the word on a pin.
-fn one_pin(s: Placed, pin: u8, word: u32, i: u8) -> Placed
-    requires { ⌜ (s .value < 65536) × (s .mapped < 65536) ⌝ }
-    ensures reply { λ r. ⌜ r ≡ stepPin s pin word i ⌝ }
+// A pin below the limit is one of the sixteen once lowered by m; 255 is never below it.
+fn limit(m: u8) -> u8
+    ensures { λ r. ⌜ r ≡ limit m ⌝ }
+{
+    if m < 239 { m + 16 } else { 255 }
+}
+
+// Bit i of the word on a pin, which is lowered by m; with one test of the pin instead of two.
+fn one_pin(s: Placed, m: u8, lim: u8, pin: u8, word: u32, i: u8) -> Placed
+    requires { ⌜ (lim ≡ limit m) × (i < 32) × (s .value < 65536) × (s .mapped < 65536) ⌝ }
+    ensures reply { λ r. ⌜ r ≡ stepPin s (lowered m pin) word i ⌝ }
     ensures below { λ r. ⌜ (r .value < 65536) × (r .mapped < 65536) ⌝ }
 {
-    let value = put(s.value, pin, bit_of(word, i));
-    let mapped = put(s.mapped, pin, bit_of(0xFFFFFFFF, i));
+    if lim <= pin {
+        return s;
+    }
+    let p = less(pin, m);
+    let value = put_at(s.value, p, bit_of(word, i));
+    let mapped = put_at(s.mapped, p, 1);
     Placed { value, mapped }
 }
 
@@ -45,26 +62,27 @@ fn one_pin(s: Placed, pin: u8, word: u32, i: u8) -> Placed
 pub(crate) fn address_pins(m: u8, addr: [u8; 16], word: u32) -> Placed
     ensures { λ r. ⌜ r ≡ placed (map (lowered m) addr) word ⌝ }
 {
+    let lim = limit(m);
     let s0 = Placed {
         value: 0,
         mapped: 0,
     };
-    let s1 = one_pin(s0, lower(m, addr[0]), word, 0);
-    let s2 = one_pin(s1, lower(m, addr[1]), word, 1);
-    let s3 = one_pin(s2, lower(m, addr[2]), word, 2);
-    let s4 = one_pin(s3, lower(m, addr[3]), word, 3);
-    let s5 = one_pin(s4, lower(m, addr[4]), word, 4);
-    let s6 = one_pin(s5, lower(m, addr[5]), word, 5);
-    let s7 = one_pin(s6, lower(m, addr[6]), word, 6);
-    let s8 = one_pin(s7, lower(m, addr[7]), word, 7);
-    let s9 = one_pin(s8, lower(m, addr[8]), word, 8);
-    let s10 = one_pin(s9, lower(m, addr[9]), word, 9);
-    let s11 = one_pin(s10, lower(m, addr[10]), word, 10);
-    let s12 = one_pin(s11, lower(m, addr[11]), word, 11);
-    let s13 = one_pin(s12, lower(m, addr[12]), word, 12);
-    let s14 = one_pin(s13, lower(m, addr[13]), word, 13);
-    let s15 = one_pin(s14, lower(m, addr[14]), word, 14);
-    one_pin(s15, lower(m, addr[15]), word, 15)
+    let s1 = one_pin(s0, m, lim, addr[0], word, 0);
+    let s2 = one_pin(s1, m, lim, addr[1], word, 1);
+    let s3 = one_pin(s2, m, lim, addr[2], word, 2);
+    let s4 = one_pin(s3, m, lim, addr[3], word, 3);
+    let s5 = one_pin(s4, m, lim, addr[4], word, 4);
+    let s6 = one_pin(s5, m, lim, addr[5], word, 5);
+    let s7 = one_pin(s6, m, lim, addr[6], word, 6);
+    let s8 = one_pin(s7, m, lim, addr[7], word, 7);
+    let s9 = one_pin(s8, m, lim, addr[8], word, 8);
+    let s10 = one_pin(s9, m, lim, addr[9], word, 9);
+    let s11 = one_pin(s10, m, lim, addr[10], word, 10);
+    let s12 = one_pin(s11, m, lim, addr[11], word, 11);
+    let s13 = one_pin(s12, m, lim, addr[12], word, 12);
+    let s14 = one_pin(s13, m, lim, addr[13], word, 13);
+    let s15 = one_pin(s14, m, lim, addr[14], word, 14);
+    one_pin(s15, m, lim, addr[15], word, 15)
 }
 
 fn is_high_pin(v: u32, pin: u8) -> bool

@@ -1,43 +1,18 @@
-use Prim.Native.Nat.{_^_, _<_}
-use native.Mathlib.Omega.{arith}
-use native.Mathlib.Nat.{one-mul}
-use mathlib.Core.Path.{refl}
-use lib.Bits.{and-le-l}
-use lib.Pow.{shl-exact, pow-lt}
 use borrow.Author.Needs.{needs}
-use borrow.Author.Tests.{lt-ltb, le-ltb}
-use Rattle.mangle.specs.WordLaws.{and-bit, bit-le}
+use borrow.Author.Tests.{le-ltb}
 use Rattle.mangle.specs.Words.{onPin}
 use Rattle.mangle.proofs.map.put.Statement.{statement}
 use Rattle.mangle.proofs.map.put.Tie as tie
 
-shl-result : tie.Need-shl-result
-shl-result c = search needs
-
-sub-result : tie.Need-sub-result
-sub-result c = search (needs, and-le-l)
-
-shl-result-2 : tie.Need-shl-result-2
-shl-result-2 c = search needs
-
-add-result : tie.Need-add-result
-add-result c =
-    let a = c .before .args in
-    let b : a .b < 2 = c .before .pre .1 in
-    let v : a .v < 65536 = c .before .pre .0 in
-    let l = bit-le (a .b) (2 ^ a .pin) b in
-    let p : 2 ^ a .pin < 65536 = pow-lt (c .if1 .taken) in
-    record { fits = rw (shl-exact {a = a .b} 1 (a .pin) 32 b (omega arith)) (omega arith) }
+put-at-requires : tie.Need-put-at-requires
+put-at-requires c κs = search needs
 
 returns : tie.Need-returns
-unfolding onPin
-returns c =
-    let a = c .before .args in
-    rw (lt-ltb (a .pin) 16 (c .if1 .taken), shl-exact {a = a .b} 1 (a .pin) 32 (c .before .pre .1) (omega arith), shl-exact {a = 1} 1 (a .pin) 32 (omega arith) (omega arith), one-mul (2 ^ a .pin), and-bit (a .v) (a .pin)) refl
+returns c = c .put-at .ensures
 
 returns-2 : tie.Need-returns-2
 unfolding onPin
 returns-2 c = rw (le-ltb (c .before .args .pin) 16 (c .if1 .left))
 
 pub put-spec : {M : Type 1} → statement M
-put-spec = tie.close (tie.spec shl-result sub-result shl-result-2 add-result returns returns-2)
+put-spec = tie.close (tie.spec put-at-requires returns returns-2)

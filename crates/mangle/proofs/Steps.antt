@@ -8,28 +8,17 @@ use mathlib.Core.Path.{_≡_, refl, sym}
 use mathlib.Core.List.{List, [], _∷_, _++_, map, append-assoc, append-nil}
 use mathlib.Core.Bool.{Bool, true, false, _&&_, _||_}
 use lib.Bits.{bitOr}
-use lib.Dec.{ltb}
 use lib.ListN.{length, getD, take, drop, set, drop-of-length-le}
 use lib.Seq.{drop-cons, take-all, take-suc-set}
 use borrow.Author.Tests.{lt-ltb, le-ltb}
 use Rattle.le.specs.Choice.{pick}
 use Rattle.mangle.specs.declared.Placed.{Placed}
-use Rattle.mangle.specs.BaseZero.{leastOf}
 use Rattle.mangle.specs.Bits.{taken, gather}
 use Rattle.mangle.specs.Demangle.{allBelow}
 use Rattle.mangle.specs.Mangle.{bitOf, raised}
 use Rattle.mangle.specs.PinMap.{off, controlOff}
 use Rattle.mangle.specs.Rules.{isBit}
 use Rattle.mangle.specs.Words.{onPins, allHigh, stepPin, onControl, onControls}
-
-pub least-on : (ps : List ℕ) (i m : ℕ) → i < length ps
-    → leastOf (drop i ps) m ≡ leastOf (drop (i + 1) ps) (pick (ltb (getD ps i 0) m) (getD ps i 0) m)
-unfolding leastOf
-least-on ps i m h = rw (add-one i, drop-cons ps i 0)
-
-pub least-end : (ps : List ℕ) (i m : ℕ) → length ps ≤ i → leastOf (drop i ps) m ≡ m
-unfolding leastOf
-least-end ps i m h = rw (drop-of-length-le ps h)
 
 -- the first i of l are done, the others follow
 pub map-on : (f : ℕ → ℕ) (l ps : List ℕ) (i : ℕ) → i < length l → i < length ps

@@ -5,6 +5,7 @@ pub mod PinMap
 pub mod Mangle
 pub mod Demangle
 pub mod Laws
+pub mod LeastLaws
 pub mod Words
 pub mod WordLaws
 pub mod Cases

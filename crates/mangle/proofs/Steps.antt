@@ -15,8 +15,8 @@ use Rattle.le.specs.Choice.{pick}
 use Rattle.mangle.specs.declared.Placed.{Placed}
 use Rattle.mangle.specs.Bits.{taken, gather}
 use Rattle.mangle.specs.Demangle.{allBelow}
-use Rattle.mangle.specs.Mangle.{bitOf, raised}
 use Rattle.mangle.specs.PinMap.{off, controlOff}
+use Rattle.mangle.specs.RaiseLaws.{raisedBy}
 use Rattle.mangle.specs.Rules.{isBit}
 use Rattle.mangle.specs.Words.{onPins, allHigh, stepPin, onControl, onControls}
 
@@ -98,11 +98,11 @@ unfolding onControls
 control-end f ps bs i w v h = rw (drop-of-length-le ps h)
 
 -- one more level
-pub raised-on : (ds : List ℕ) (ls : List Bool) (w i : ℕ) → i < length ds → i < length ls
-    → raised (drop i ds) (drop i ls) w ≡ raised (drop (i + 1) ds) (drop (i + 1) ls) (bitOr w (pick (getD ls i false) (bitOf (getD ds i 0)) 0))
-unfolding raised
-raised-on ds ls w i h k = rw (add-one i, drop-cons ds i 0, drop-cons ls i false)
+pub raised-on : (ms : List ℕ) (ls : List Bool) (w i : ℕ) → i < length ms → i < length ls
+    → raisedBy (drop i ms) (drop i ls) w ≡ raisedBy (drop (i + 1) ms) (drop (i + 1) ls) (bitOr w (pick (getD ls i false) (getD ms i 0) 0))
+unfolding raisedBy
+raised-on ms ls w i h k = rw (add-one i, drop-cons ms i 0, drop-cons ls i false)
 
-pub raised-end : (ds : List ℕ) (ls : List Bool) (w i : ℕ) → length ds ≤ i → raised (drop i ds) (drop i ls) w ≡ w
-unfolding raised
-raised-end ds ls w i h = rw (drop-of-length-le ds h)
+pub raised-end : (ms : List ℕ) (ls : List Bool) (w i : ℕ) → length ms ≤ i → raisedBy (drop i ms) (drop i ls) w ≡ w
+unfolding raisedBy
+raised-end ms ls w i h = rw (drop-of-length-le ms h)

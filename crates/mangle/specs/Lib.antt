@@ -6,6 +6,7 @@ pub mod Mangle
 pub mod Demangle
 pub mod Laws
 pub mod LeastLaws
+pub mod RaiseLaws
 pub mod Words
 pub mod WordLaws
 pub mod Cases

@@ -5,7 +5,7 @@ ghost use lib.Bits.{bitOr};
 ghost use lib.ListN.{length};
 ghost use Rattle.le.specs.Choice.{pick};
 ghost use Rattle.mangle.specs.Bits.{taken, gather};
-ghost use Rattle.mangle.specs.Mangle.{bitOf, raised};
+ghost use Rattle.mangle.specs.RaiseLaws.{raisedBy};
 
 pub(crate) fn pick_num(c: bool, a: u8, b: u8) -> u8
     ensures { λ r. ⌜ r ≡ pick c a b ⌝ }
@@ -51,24 +51,21 @@ pub(crate) fn unplace(data: [u8; 8], byte: u8) -> u8
     gathered(&data, byte as u32) as u8
 }
 
-// The word with input bit d raised, where the level is high.
-fn raise(word: u32, high: bool, d: u8) -> u32
-    ensures { λ r. ⌜ r ≡ bitOr word (pick high (bitOf d) 0) ⌝ }
+// The word with the mask's bits raised, where the level is high.
+fn raise(word: u32, high: bool, mask: u32) -> u32
+    ensures { λ r. ⌜ r ≡ bitOr word (pick high mask 0) ⌝ }
 {
-    if !high {
-        return word;
-    }
-    if d < 32 { word | (1 << d) } else { word }
+    if high { word | mask } else { word }
 }
 
-// The word with the input bits raised that the high levels drive.
-pub(crate) fn raised(drives: [u8; 5], levels: [bool; 5], word: u32) -> u32
-    ensures { λ r. ⌜ r ≡ raised drives levels word ⌝ }
+// The word with the masks of the high levels raised.
+pub(crate) fn raised(masks: [u32; 5], levels: [bool; 5], word: u32) -> u32
+    ensures { λ r. ⌜ r ≡ raisedBy masks levels word ⌝ }
 {
     let mut w = word;
     let mut i: usize = 0;
     while i < 5 {
-        w = raise(w, levels[i], drives[i]);
+        w = raise(w, levels[i], masks[i]);
         i += 1;
     }
     w

@@ -85,7 +85,7 @@ fn levels(cs_set: SdrrCsSet) -> [bool; 5]
 fn input_word(rom_type: SdrrRomType, rom_count: u32, levels: [bool; 5], address: u32) -> u32
     ensures { λ r. ⌜ r ≡ inputWord «rom_type» «rom_count» levels address ⌝ }
 {
-    bits::raised(rules::drives(rom_type, rom_count), levels, address)
+    bits::raised(rules::drive_words(rom_type, rom_count), levels, address)
 }
 
 // The map's number n first, then 77, then 78.

@@ -1,9 +1,11 @@
 // What mangling goes by for each type of ROM (info.rs `mangle_address`).
 use super::TypeRules;
-use super::bits::pick_num;
 use types::SdrrRomType;
 ghost use mathlib.Core.Path.{_≡_};
-ghost use Rattle.mangle.specs.Rules.{rules, unsupported, rulesOf, mask, controlBits, drives, is28C16};
+ghost use mathlib.Core.List.{[], _∷_, map};
+ghost use Rattle.le.specs.Choice.{pick};
+ghost use Rattle.mangle.specs.Mangle.{bitOf};
+ghost use Rattle.mangle.specs.Rules.{none, rules, unsupported, rulesOf, mask, controlBits, drives, is28C16};
 
 fn rules(
     mask: u32,
@@ -101,17 +103,28 @@ pub(crate) fn control_bits(rom_type: SdrrRomType) -> [u8; 5]
     [r.cs1, r.cs2, r.cs3, r.oe, r.ce]
 }
 
-// The input bits that the levels CS1, CS2, CS3, X1, X2 raise; 255: none.
-pub(crate) fn drives(rom_type: SdrrRomType, rom_count: u32) -> [u8; 5]
-    ensures { λ r. ⌜ r ≡ drives «rom_type» «rom_count» ⌝ }
+// X1 and X2 raise input bits 14 and 15 with several ROMs.
+fn words(cs1: u32, cs2: u32, cs3: u32, several: bool) -> [u32; 5]
+    ensures { λ r. ⌜ r ≡ (cs1 ∷ cs2 ∷ cs3 ∷ bitOf (pick several 14 none) ∷ bitOf (pick several 15 none) ∷ []) ⌝ }
 {
-    let r = rules_of(rom_type);
+    if several {
+        [cs1, cs2, cs3, 0x4000, 0x8000]
+    } else {
+        [cs1, cs2, cs3, 0, 0]
+    }
+}
+
+// The input bits that the levels CS1, CS2, CS3, X1, X2 raise, each as a mask: no shift is left for the caller.
+pub(crate) fn drive_words(rom_type: SdrrRomType, rom_count: u32) -> [u32; 5]
+    ensures { λ r. ⌜ r ≡ map bitOf (drives «rom_type» «rom_count») ⌝ }
+{
     let several = 2 <= rom_count;
-    [
-        r.by_cs1,
-        r.by_cs2,
-        r.by_cs3,
-        pick_num(several, 14, 255),
-        pick_num(several, 15, 255),
-    ]
+    match rom_type {
+        SdrrRomType::Rom2364 => words(0x2000, 0, 0, several),
+        SdrrRomType::Rom2332 | SdrrRomType::Rom2716 | SdrrRomType::Rom2732 => {
+            words(0x2000, 0x1000, 0, several)
+        }
+        SdrrRomType::Rom2316 => words(0x2000, 0x1000, 0x800, several),
+        _ => words(0, 0, 0, several),
+    }
 }

@@ -1,17 +1,21 @@
 use borrow.Author.Needs.{needs}
 use Rattle.mangle.specs.Mangle.{inputWord}
+use Rattle.mangle.specs.RaiseLaws.{masks-raise}
+use Rattle.mangle.specs.Rules.{drives}
 use Rattle.mangle.proofs.input_word.Statement.{statement}
 use Rattle.mangle.proofs.input_word.Tie as tie
 
-drives-requires : tie.Need-drives-requires
-drives-requires c κs = search needs
+drive-words-requires : tie.Need-drive-words-requires
+drive-words-requires c κs = search needs
 
 raised-requires : tie.Need-raised-requires
 raised-requires c κs = search needs
 
 returns : tie.Need-returns
 unfolding inputWord
-returns c = rw (c .raised .ensures, c .before .drives .ensures)
+returns c =
+    let a = c .before .before .args in
+    rw (c .raised .ensures, c .before .drive-words .ensures) (masks-raise (drives (a .rom-type) (a .rom-count)) (a .levels) (a .address))
 
 pub input-word-spec : {M : Type 1} → statement M
-input-word-spec = tie.close (tie.spec drives-requires raised-requires returns)
+input-word-spec = tie.close (tie.spec drive-words-requires raised-requires returns)

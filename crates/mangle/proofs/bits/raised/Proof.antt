@@ -3,23 +3,25 @@ use native.Mathlib.Omega.{arith}
 use mathlib.Core.Path.{_≡_, _∙_, sym, refl}
 use lib.ListN.{length, drop}
 use borrow.Author.Needs.{needs}
-use Rattle.mangle.specs.Rules.{drives}
-use Rattle.mangle.specs.Mangle.{levels, raised}
+use Rattle.mangle.specs.RaiseLaws.{raisedBy}
 use Rattle.mangle.proofs.Steps.{raised-on, raised-end}
 use Rattle.mangle.proofs.bits.raised.Statement.{statement}
 use Rattle.mangle.proofs.bits.raised.Tie as tie
 
 abbrev Inv-loop : tie.InvT-loop
-Inv-loop word drives levels w₀ i₀ w i = (i ≤ 5) × (raised (drop i drives) (drop i levels) w ≡ raised drives levels word)
+Inv-loop word masks levels w₀ i₀ w i = (i ≤ 5) × (raisedBy (drop i masks) (drop i levels) w ≡ raisedBy masks levels word)
 
 abbrev μ-loop : tie.MeasureT-loop
-μ-loop word drives levels w₀ i₀ w i = 5 - i
+μ-loop word masks levels w₀ i₀ w i = 5 - i
 
 loop-holds : tie.Need-loop-holds Inv-loop μ-loop
 loop-holds c = (omega arith, refl)
 
 array-read-raise : tie.Need-array-read-raise Inv-loop μ-loop
 array-read-raise c = search needs
+
+mul-raise : tie.Need-mul-raise Inv-loop μ-loop
+mul-raise c = search needs
 
 array-read-raise-2 : tie.Need-array-read-raise-2 Inv-loop μ-loop
 array-read-raise-2 c = search needs
@@ -57,6 +59,7 @@ raised-spec =
     μ-loop
     loop-holds
     array-read-raise
+    mul-raise
     array-read-raise-2
     raise-requires
     add-i

@@ -1,4 +1,3 @@
-use borrow.Author.Needs.{needs}
 use borrow.Author.Tests.{lt-ltb, le-ltb}
 use Rattle.mangle.specs.LeastLaws.{lesser}
 use Rattle.mangle.proofs.base.lesser.Statement.{statement}

@@ -1,6 +1,5 @@
 use mathlib.Core.Path.{sym}
 use lib.Bits.{or-zero-r}
-use borrow.Author.Needs.{needs}
 use Rattle.mangle.proofs.bits.raise.Statement.{statement}
 use Rattle.mangle.proofs.bits.raise.Tie as tie
 

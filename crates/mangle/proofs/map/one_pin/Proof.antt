@@ -1,4 +1,4 @@
-use Prim.Native.Nat.{_≤_, _<_, _-_}
+use Prim.Native.Nat.{_≤_}
 use native.Mathlib.Omega.{arith}
 use mathlib.Core.Path.{_≡_, refl, sym, _∙_}
 use borrow.Author.Needs.{needs}
@@ -6,7 +6,7 @@ use borrow.Author.Tests.{le-ltb}
 use Rattle.mangle.specs.BaseZero.{lowered}
 use Rattle.mangle.specs.Laws.{taken-lt}
 use Rattle.mangle.specs.WordLaws.{on-lt, limit-in, limit-out, all-taken}
-use Rattle.mangle.specs.Words.{onPin, allHigh}
+use Rattle.mangle.specs.Words.{onPin}
 use Rattle.mangle.proofs.map.one_pin.Statement.{statement}
 use Rattle.mangle.proofs.map.one_pin.Tie as tie
 

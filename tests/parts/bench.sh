@@ -14,6 +14,18 @@ test_bench_facts_are_the_generators() {
     bench_part facts
 }
 
+test_bench_names() {
+    bench_part names
+}
+
+test_bench_rare_boards() {
+    bench_part rare
+}
+
+test_bench_command_line() {
+    bench_part words
+}
+
 test_bench_reads_are_the_roms_text() {
     bench_part reads
 }

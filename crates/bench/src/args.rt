@@ -28,14 +28,16 @@ const LEVELS: u8 = 4;
 const NOTHING: u8 = 5;
 
 // What is asked for; or the number of a refusal, and the argument that it is about (0: none).
-// waiting: the option whose number comes next (255: none). file: the argument that names it (0: the sample).
+// waiting: the option whose number comes next (255: none). file, command_at: the arguments that name them (0: the sample, none).
 pub(crate) struct Request {
     pub number: u8,
     pub about: usize,
     pub machine: bool,
+    pub help: bool,
     pub waiting: u8,
     pub next: u8,
     pub command: u8,
+    pub command_at: usize,
     pub file: usize,
     pub set: u32,
     pub address: u32,
@@ -50,9 +52,11 @@ fn nothing() -> Request {
         number: 0,
         about: 0,
         machine: false,
+        help: false,
         waiting: 255,
         next: FILE_OR_COMMAND,
         command: REPORT,
+        command_at: 0,
         file: 0,
         set: 0,
         address: 0,
@@ -118,7 +122,7 @@ fn take_command(request: Request, at: usize, word: &[u8]) -> Request {
         return r;
     }
     r.command = command;
-    r.about = at;
+    r.command_at = at;
     r.next = if command == HELP { NOTHING } else { SET };
     r
 }
@@ -148,28 +152,42 @@ fn take_word(request: Request, at: usize, word: &[u8]) -> Request {
     take_number(request, at, word)
 }
 
-// --machine is seen behind a refusal too, so that this is answered in that form.
+// --machine and --help are seen behind a refusal too: it is answered in that form, and help wins wherever it stands.
 fn take_option(request: Request, at: usize, option: u8) -> Request {
     let mut r = request;
+    let about = r.about;
     if option == 3 {
         r.machine = true;
-        return r;
+    }
+    if 3 < option {
+        r.help = true;
     }
     if r.number != 0 {
         return r;
     }
-    if option == 4 {
-        r.command = HELP;
-        return r;
+    if r.waiting != 255 {
+        return stop(r, 102, about);
     }
-    r.waiting = option;
-    r.about = at;
+    if option < 3 {
+        r.waiting = option;
+        r.about = at;
+    }
+    r
+}
+
+// Behind a refusal it still counts whether bytes are asked for: then the refusal goes to standard error.
+fn take_refused(request: Request, word: &[u8]) -> Request {
+    let mut r = request;
+    let command = words::place(word, b"read|raw");
+    if le::both(r.command == REPORT, command < BYTE) {
+        r.command = command;
+    }
     r
 }
 
 fn take_other(request: Request, at: usize, word: &[u8]) -> Request {
     if request.number != 0 {
-        return request;
+        return take_refused(request, word);
     }
     if request.waiting != 255 {
         return take_number(request, at, word);
@@ -180,15 +198,23 @@ fn take_other(request: Request, at: usize, word: &[u8]) -> Request {
     take_word(request, at, word)
 }
 
+// The first refusal stands.
+fn too_long(request: Request) -> Request {
+    if request.number != 0 {
+        return request;
+    }
+    stop(request, 100, 0)
+}
+
 fn take(request: Request, at: usize) -> Request {
     let mut space = io::buffer();
     let n = os::arg(at, &mut space);
     if os::errno() != 0 {
-        return stop(request, 100, 0);
+        return too_long(request);
     }
     let option = words::place(
         &space[..n],
-        b"--flash-base|--cs0-base|--info-offset|--machine|--help",
+        b"--flash-base|--cs0-base|--info-offset|--machine|--help|-h",
     );
     if option < 255 {
         return take_option(request, at, option);
@@ -206,7 +232,7 @@ fn whole(request: Request) -> Request {
         return stop(request, 102, about);
     }
     if le::either(request.next == SET, request.next == ADDRESS) {
-        return stop(request, 104, about);
+        return stop(request, 104, request.command_at);
     }
     request
 }

@@ -66,6 +66,7 @@ fn whole_report(
         rom_rows,
     );
     report::end_note(request.machine, info, is_cut);
+    refuse::end(request);
 }
 
 fn answer(request: Request, image: &[u8], info: SdrrInfo, set_rows: &[u32], rom_rows: &[u32]) {
@@ -120,7 +121,9 @@ fn run(request: Request) {
 
 fn main() {
     let request = args::parse();
-    if request.number != 0 {
+    if request.help {
+        help::help();
+    } else if request.number != 0 {
         refuse::arguments(request);
     } else if request.command == args::HELP {
         help::help();

@@ -52,11 +52,11 @@ fn of_reads(to: i32, n: u32) {
         to,
         b"the pins are refused, and this read needs them|\
         the board serves no set|\
-        X1 or X2 is at pin 16 or above|\
+        X1 or X2 is not on one of the sixteen pins that are read|\
         X1 or X2 is at a pin that an address line has|\
         set 0 has no ROM|\
         set 0's first ROM is of a type that logical reads do not cover|\
-        a control pin that the type uses is at pin 16 or above|\
+        a control pin that the type uses is not on one of the sixteen pins that are read|\
         the address is above the ROM's last|\
         logical reads do not cover a 28C16|\
         a data pin is at 8 or above|\
@@ -75,7 +75,7 @@ fn of_program(to: i32, n: u32) {
         no such option; bench help lists them|\
         this option needs a number after it|\
         no such command: it is read, raw, byte or help|\
-        a number is missing after it|\
+        it needs a SET, and byte an ADDRESS too|\
         one argument too many|\
         not a number from 0 to 4294967295, decimal or 0x..|\
         not levels, as cs1=1,x2=0 (of cs1 cs2 cs3 x1 x2), or low|\

@@ -36,14 +36,19 @@ fn fill_end(number: u8, length: usize) -> Filled
     Filled { number: n, length }
 }
 
-// 80: no such set. 113: the set's ROM count or first type differs from set 0's, by which a logical read goes.
+// 80: no such set. 113: the set's ROM count or first type differs from set 0's, by which a logical read goes. Sets without ROMs have no
+// type that could differ: the library says 74 of them.
 fn logical_number(board: Board, set_rows: &[u32], rom_rows: &[u32], set: u32) -> u8 {
     let size = rom_reads::get_rom_set_size(board.served, set_rows, set);
     if size.number != 0 {
         return size.number;
     }
-    if rows::set_word(set_rows, set, 3) != rows::set_word(set_rows, 0, 3) {
+    let count = rows::set_word(set_rows, set, 3);
+    if count != rows::set_word(set_rows, 0, 3) {
         return 113;
+    }
+    if count == 0 {
+        return 0;
     }
     if lent::first_type(set_rows, rom_rows, set) != lent::first_type(set_rows, rom_rows, 0) {
         return 113;
@@ -228,4 +233,5 @@ pub(crate) fn byte(
     let pins = board.pins;
     let m = info::mangle_address(pins, board.served, set_rows, rom_rows, at, cs_set);
     show_byte(request, r.byte, s.byte, m.value);
+    refuse::end(request);
 }

@@ -41,6 +41,17 @@ pub(crate) fn part(request: Request, number: u8, of: &[u8], numbers: &[u32]) {
     }
 }
 
+// A script's last line: a report without it was cut short on its way. Where it can't be written, standard error says so.
+pub(crate) fn end(request: Request) {
+    if !request.machine {
+        return;
+    }
+    let is_written = io::write_all(STDOUT_FILENO, b"end\n");
+    if !is_written {
+        form(STDERR_FILENO, b"refused %d\nreason %w\n", &[115, 115]);
+    }
+}
+
 // The command line is not understood.
 pub(crate) fn arguments(request: Request) {
     let n = request.number as u32;

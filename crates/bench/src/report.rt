@@ -10,6 +10,7 @@ use libc::STDOUT_FILENO;
 use metadata::MetadataItem;
 use pins::PinsItem;
 use text::Text;
+use version::FirmwareVersion;
 
 // The start of an item: for a person its label, for a script its number; then what a refusal means. Whether it is accepted.
 pub(crate) fn item(is_machine: bool, label: &[u8], key: &[u8], number: u8) -> bool {
@@ -88,7 +89,19 @@ fn flags(is_machine: bool, f: SdrrInfoFields) {
     );
 }
 
-fn extra(is_machine: bool, i: ExtraInfoItem) {
+// Below 0.4 extra info is looked for where none can be.
+fn extra_hint(is_machine: bool, v: FirmwareVersion) {
+    if version::below_0_4(v) {
+        told(
+            is_machine,
+            b"                   (there is none before firmware 0.4)\n",
+            b"",
+            &[],
+        );
+    }
+}
+
+fn extra(is_machine: bool, i: ExtraInfoItem, v: FirmwareVersion) {
     let e = i.extra_info;
     let n = numbers::extra(e);
     if item(is_machine, b"Extra info         ", b"extra", i.number) {
@@ -100,6 +113,8 @@ fn extra(is_machine: bool, i: ExtraInfoItem) {
             extra.rtt %x\nextra.runtime %x\n",
             &n,
         );
+    } else {
+        extra_hint(is_machine, v);
     }
 }
 
@@ -209,6 +224,7 @@ pub(crate) fn records(is_machine: bool, image: &[u8], info: SdrrInfo) {
     let f = info.fields;
     let date = info.build_date;
     let rev = info.hw_rev;
+    let v = f.version;
     let e = info.extra_info;
     let m = info.metadata;
     let p = info.pins;
@@ -222,13 +238,13 @@ pub(crate) fn records(is_machine: bool, image: &[u8], info: SdrrInfo) {
     );
     string(is_machine, image, b"Hardware revision  ", b"hw_rev", rev);
     flags(is_machine, f);
-    extra(is_machine, e);
+    extra(is_machine, e, v);
     pins(is_machine, p);
     more_pins(is_machine, p);
     metadata(is_machine, m);
 }
 
-// For a person: a hint where items lie past the end. (Sets are marked so too where metadata is.)
+// For a person: a hint where something does not lie within the dump. (Sets are marked so too where metadata is.)
 pub(crate) fn end_note(is_machine: bool, info: SdrrInfo, is_cut: bool) {
     let date = info.build_date;
     let rev = info.hw_rev;
@@ -239,7 +255,7 @@ pub(crate) fn end_note(is_machine: bool, info: SdrrInfo, is_cut: bool) {
     if le::either(is_cut, le::either(is_text, is_record)) {
         told(
             is_machine,
-            b"\nthe dump may be cut short: what is refused with 2 runs past its end\n",
+            b"\nthe dump may be cut short: what is refused with 2 does not all lie within it\n",
             b"",
             &[],
         );

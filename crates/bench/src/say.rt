@@ -21,11 +21,11 @@ fn escaped(to: i32, b: u8) {
     io::print_hex(to, b as u64, 2);
 }
 
-// A character of ASCII, or \x and two digits.
+// A character of ASCII; a backslash and what is none as \x and two digits.
 pub(crate) fn character(to: i32, b: u8) {
     if b < 32 {
         escaped(to, b);
-    } else if 126 < b {
+    } else if le::either(126 < b, b == 92) {
         escaped(to, b);
     } else {
         text(to, &[b]);

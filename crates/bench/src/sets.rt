@@ -92,9 +92,21 @@ fn set_for_person(set_rows: &[u32], set: u32, data: u32) {
     }
 }
 
-fn set_for_script(set_rows: &[u32], set: u32, data: u32) {
+// Size and data pointer, and whether the dump holds the bytes.
+fn data_for_script(set_rows: &[u32], set: u32, data: u32) {
     let at = rows::set_word(set_rows, set, 0);
     let size = rows::set_word(set_rows, set, 1);
+    form(
+        STDOUT_FILENO,
+        b"set.%d.size %d\nset.%d.data %x\nset.%d.data.number %d\n",
+        &[set, size, set, at, set, data],
+    );
+    if data != 0 {
+        form(STDOUT_FILENO, b"set.%d.data.reason %w\n", &[set, data]);
+    }
+}
+
+fn set_for_script(set_rows: &[u32], set: u32) {
     let count = rows::set_word(set_rows, set, 3);
     let serve = rows::set_word(set_rows, set, 4);
     let state = rows::set_word(set_rows, set, 5);
@@ -102,15 +114,8 @@ fn set_for_script(set_rows: &[u32], set: u32, data: u32) {
     let overrides = rows::set_word(set_rows, set, 7);
     form(
         STDOUT_FILENO,
-        b"set.%d.size %d\nset.%d.data %x\nset.%d.data.number %d\nset.%d.serve %d\n\
-        set.%d.multi_rom_state %d\nset.%d.config %x\nset.%d.overrides %x\nset.%d.roms %d\n",
+        b"set.%d.serve %d\nset.%d.multi_rom_state %d\nset.%d.config %x\nset.%d.overrides %x\nset.%d.roms %d\n",
         &[
-            set,
-            size,
-            set,
-            at,
-            set,
-            data,
             set,
             serve,
             set,
@@ -136,7 +141,8 @@ fn set(
 ) -> bool {
     let data = lent::data_number(image, board, set_rows, set) as u32;
     if is_machine {
-        set_for_script(set_rows, set, data);
+        data_for_script(set_rows, set, data);
+        set_for_script(set_rows, set);
     } else {
         set_for_person(set_rows, set, data);
     }

@@ -7,13 +7,16 @@ use lib.ListN.{length, getD}
 use Rattle.le.specs.Choice.{pick}
 use Rattle.types.specs.declared.McuLine.{McuLine}
 use Rattle.types.specs.declared.SdrrCsSet.{SdrrCsSet}
+use Rattle.types.specs.declared.SdrrRomType.{SdrrRomType}
 use Rattle.types.specs.Types.{romTypeOf}
+use Rattle.pins.specs.declared.SdrrPins.{SdrrPins}
 use Rattle.pins.specs.declared.PinsItem.{PinsItem}
 pub use Rattle.rows.specs.LentRows.{hasSetRow, hasRomRow, setWord, dataPointer, sizeOf, firstRom, romCount, serveOf, typeWord, badRomRow, setNumber}
 use Rattle.mangle.specs.declared.Mangled.{Mangled}
 use Rattle.mangle.specs.declared.Demangled.{Demangled}
 use Rattle.mangle.specs.Mangle.{mangleCore}
 use Rattle.mangle.specs.Demangle.{demangle}
+use Rattle.info.specs.declared.GoverningSet.{GoverningSet}
 use Rattle.info.specs.declared.Valued.{Valued}
 
 -- ---- mangling and demangling on a board
@@ -29,6 +32,23 @@ mangleAddress pins served sets roms address levels =
     (pick (not (hasSetRow sets 0)) (unmangled 4)
     (pick (not (eqb (romCount sets 0) 0) && badRomRow roms (firstRom sets 0)) (unmangled 4)
     (mangleCore (pins .pins) (romCount sets 0) (romTypeOf (typeWord roms (firstRom sets 0))) address levels))))
+
+-- Document 01, "Mangling", in two steps that come to the same (`in-two` in Steps): what governs, found in the rows; then the mangling by it.
+-- Where nothing governs, beside 70, 71 or 4 stand no ROMs and type number 0.
+abbrev pub ungoverned : ℕ → GoverningSet
+ungoverned n = record { number = n; «rom_count» = 0; «rom_type» = SdrrRomType.Rom2316 }
+
+unfoldable pub governing : (pinsNumber served : ℕ) → (sets roms : List ℕ) → GoverningSet
+governing pinsNumber served sets roms =
+    pick (not (eqb pinsNumber 0)) (ungoverned 70)
+    (pick (eqb served 0) (ungoverned 71)
+    (pick (not (hasSetRow sets 0)) (ungoverned 4)
+    (pick (not (eqb (romCount sets 0) 0) && badRomRow roms (firstRom sets 0)) (ungoverned 4)
+    (record { number = 0; «rom_count» = romCount sets 0; «rom_type» = romTypeOf (typeWord roms (firstRom sets 0)) }))))
+
+unfoldable pub mangledBy : GoverningSet → SdrrPins → ℕ → SdrrCsSet → Mangled
+mangledBy g pins address levels =
+    pick (not (eqb (g .number) 0)) (unmangled (g .number)) (mangleCore pins (g .«rom_count») (g .«rom_type») address levels)
 
 -- 70: no pins. Then 79.
 unfoldable pub demangleByte : PinsItem → ℕ → Demangled

@@ -2,9 +2,11 @@
 use mangle::Demangled;
 use mangle::Mangled;
 use pins::PinsItem;
+use pins::SdrrPins;
 use types::SdrrCsSet;
+use types::SdrrRomType;
 ghost use mathlib.Core.Path.{_≡_};
-ghost use Rattle.info.specs.Lent.{unmangled, mangleAddress, demangleByte};
+ghost use Rattle.info.specs.Lent.{unmangled, ungoverned, governing, mangledBy, mangleAddress, demangleByte};
 ghost use Rattle.info.specs.Steps.{lacksFirstRom};
 
 // An address in a set: a raw offset, or a logical address with its levels.
@@ -17,6 +19,13 @@ pub enum SdrrAddress {
 pub struct Valued {
     pub number: u8,
     pub value: u32,
+}
+
+// What mangling goes by of the rows: set 0's ROM count and first type; or 70, 71 or 4, with none.
+pub struct GoverningSet {
+    pub number: u8,
+    pub rom_count: u32,
+    pub rom_type: SdrrRomType,
 }
 
 fn unmangled_by(number: u8) -> Mangled
@@ -34,6 +43,51 @@ fn lacks_first_rom(set_rows: &[u32], rom_rows: &[u32]) -> bool
     le::both(count != 0, rows::is_bad_rom_row(rom_rows, first))
 }
 
+fn ungoverned_by(number: u8) -> GoverningSet
+    ensures { λ r. ⌜ r ≡ ungoverned number ⌝ }
+{
+    GoverningSet {
+        number,
+        rom_count: 0,
+        rom_type: SdrrRomType::Rom2316,
+    }
+}
+
+pub fn governing(pins_number: u8, served: u32, set_rows: &[u32], rom_rows: &[u32]) -> GoverningSet
+    ensures { λ r. ⌜ r ≡ governing «pins_number» served (now («set_rows» .entry)) (now («rom_rows» .entry)) ⌝ }
+{
+    if pins_number != 0 {
+        return ungoverned_by(70);
+    }
+    if served == 0 {
+        return ungoverned_by(71);
+    }
+    if !rows::has_set_row(set_rows, 0) {
+        return ungoverned_by(4);
+    }
+    if lacks_first_rom(set_rows, rom_rows) {
+        return ungoverned_by(4);
+    }
+    let rom_count = rows::set_word(set_rows, 0, 3);
+    let rom_type = rows::rom_type(rom_rows, rows::set_word(set_rows, 0, 2));
+    GoverningSet {
+        number: 0,
+        rom_count,
+        rom_type,
+    }
+}
+
+pub fn mangle_by(set: GoverningSet, pins: SdrrPins, address: u32, cs_set: SdrrCsSet) -> Mangled
+    ensures { λ r. ⌜ r ≡ mangledBy «set» pins address «cs_set» ⌝ }
+{
+    if set.number != 0 {
+        return unmangled_by(set.number);
+    }
+    let rom_count = set.rom_count;
+    let rom_type = set.rom_type;
+    mangle::mangle_core(pins, rom_count, rom_type, address, cs_set)
+}
+
 pub fn mangle_address(
     pins: PinsItem,
     served: u32,
@@ -44,22 +98,9 @@ pub fn mangle_address(
 ) -> Mangled
     ensures { λ r. ⌜ r ≡ mangleAddress pins served (now («set_rows» .entry)) (now («rom_rows» .entry)) address «cs_set» ⌝ }
 {
-    if pins.number != 0 {
-        return unmangled_by(70);
-    }
-    if served == 0 {
-        return unmangled_by(71);
-    }
-    if !rows::has_set_row(set_rows, 0) {
-        return unmangled_by(4);
-    }
-    if lacks_first_rom(set_rows, rom_rows) {
-        return unmangled_by(4);
-    }
-    let count = rows::set_word(set_rows, 0, 3);
-    let rom_type = rows::rom_type(rom_rows, rows::set_word(set_rows, 0, 2));
+    let g = governing(pins.number, served, set_rows, rom_rows);
     let p = pins.pins;
-    mangle::mangle_core(p, count, rom_type, address, cs_set)
+    mangle_by(g, p, address, cs_set)
 }
 
 pub fn demangle_byte(pins: PinsItem, byte: u8) -> Demangled

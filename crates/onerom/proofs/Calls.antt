@@ -2,7 +2,7 @@
 -- Assumes nothing.
 use Prim.Native.Nat.{ℕ}
 use native.Mathlib.Omega.{arith}
-use mathlib.Core.Path.{_≡_, refl, ap, ap₂, _∙_}
+use mathlib.Core.Path.{_≡_, refl, sym, ap, ap₂, _∙_}
 use mathlib.Core.Bool.{Bool}
 use mathlib.Core.List.{List, [], _∷_, _++_}
 use borrow.Author.Tests.{eq-eqb, ne-eqb}
@@ -14,7 +14,9 @@ use Rattle.mangle.specs.declared.Mangled.{Mangled}
 use Rattle.mangle.specs.declared.Demangled.{Demangled}
 use Rattle.info.specs.declared.SdrrAddress.{SdrrAddress}
 use Rattle.info.specs.declared.Valued.{Valued}
-use Rattle.info.specs.Lent.{mangleAddress, demangleByte}
+use Rattle.info.specs.declared.GoverningSet.{GoverningSet}
+use Rattle.info.specs.Lent.{governing, mangledBy, demangleByte}
+use Rattle.info.specs.Steps.{in-two}
 use Rattle.info.specs.Reads.{range, byte, Reply, romRead, bufferLeft}
 use Rattle.rom_reads.specs.declared.Board.{Board}
 use Rattle.rom_reads.specs.declared.Counted.{Counted}
@@ -36,11 +38,13 @@ pub kept-value : (n v b : ℕ) → (n ≡ 0 → ⊥) → b ≡ valueAfter n v b
 kept-value n v b h = rw (ne-eqb n 0 h)
 
 module _ (number romPins : ℕ) (addr control : List ℕ) (served : ℕ) (sets roms : List ℕ) (address : ℕ) (levels : List ℕ) where
-  pub mangled : (p : SdrrPins) (i : PinsItem) (s : SdrrCsSet) (r : Mangled) → p ≡ pinsFrom romPins eightZeros addr control → i ≡ pinsItem number p → s ≡ levelsFrom levels
-      → r ≡ mangleAddress i served sets roms address s → r ≡ mangleCall number romPins addr control served sets roms address levels
+  pub mangled : (p : SdrrPins) (g : GoverningSet) (s : SdrrCsSet) (r : Mangled) → p ≡ pinsFrom romPins eightZeros addr control → g ≡ governing number served sets roms → s ≡ levelsFrom levels
+      → r ≡ mangledBy g p address s → r ≡ mangleCall number romPins addr control served sets roms address levels
   unfolding mangleCall
-  mangled p i s r e f g h =
-      h ∙ ap₂ (λ (j : PinsItem) (t : SdrrCsSet). mangleAddress j served sets roms address t) (f ∙ ap (pinsItem number) e) g
+  mangled p g s r e f h i =
+      i ∙ (ap (λ (k : GoverningSet). mangledBy k p address s) f
+      ∙ (ap₂ (λ (q : SdrrPins) (t : SdrrCsSet). mangledBy (governing number served sets roms) q address t) e h
+      ∙ sym (in-two (pinsItem number (pinsFrom romPins eightZeros addr control)) served sets roms address (levelsFrom levels))))
 
 pub demangled : (number stored : ℕ) (d : List ℕ) (p : SdrrPins) (i : PinsItem) (r : Demangled)
     → p ≡ pinsFrom 0 d (eightZeros ++ eightZeros) (0 ∷ 0 ∷ 0 ∷ 0 ∷ 0 ∷ 0 ∷ 0 ∷ []) → i ≡ pinsItem number p → r ≡ demangleByte i stored → r ≡ demangleCall number d stored

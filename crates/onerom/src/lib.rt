@@ -66,9 +66,9 @@ pub extern "C" fn onerom_mangle(
     ensures value { λ r. ⌜ now (value .exit) ≡ valueAfter r (mangleCall «pins_number» «rom_pins» (now (addr .entry)) (now (control .entry)) served (now («set_rows» .entry)) (now («rom_rows» .entry)) address (now (levels .entry)) .value) (now (value .entry)) ⌝ }
 {
     let pins = c_board::pins_from(rom_pins, [0, 0, 0, 0, 0, 0, 0, 0], *addr, *control);
-    let item = c_board::pins_item(pins_number, pins);
     let set = c_board::levels_from(*levels);
-    let m = info::mangle_address(item, served, set_rows, rom_rows, address, set);
+    let g = info::governing(pins_number, served, set_rows, rom_rows);
+    let m = info::mangle_by(g, pins, address, set);
     if m.number != 0 {
         return m.number as u32;
     }

@@ -9,14 +9,14 @@ use Rattle.onerom.proofs.onerom_mangle.Tie as tie
 pins-from-requires : tie.Need-pins-from-requires
 pins-from-requires c κs = search needs
 
-pins-item-requires : tie.Need-pins-item-requires
-pins-item-requires c κs = search needs
-
 levels-from-requires : tie.Need-levels-from-requires
 levels-from-requires c κs = search needs
 
-mangle-address-requires : tie.Need-mangle-address-requires
-mangle-address-requires c κs = search needs
+governing-requires : tie.Need-governing-requires
+governing-requires c κs = search needs
+
+mangle-by-requires : tie.Need-mangle-by-requires
+mangle-by-requires c κs = search needs
 
 cast-result : tie.Need-cast-result
 cast-result c = search needs
@@ -24,21 +24,25 @@ cast-result c = search needs
 returns : tie.Need-returns
 returns c =
     let entry = c .before .before .before .before .before .before .before .before .before .before .before .before .args in
-    let r = c .before .before .before .mangle-address .result in
+    let pins = c .before .before .before .before .before .before .before .pins-from in
+    let levels = c .before .before .before .before .before .levels-from in
+    let set = c .before .before .before .before .governing in
+    let r = c .before .before .before .mangle-by .result in
     let told =
     mangled (entry .pins-number) (entry .rom-pins) (entry .addr .now) (entry .control .now) (entry .served) (entry .set-rows .now) (entry .rom-rows .now) (entry .address)
-    (entry .levels .now) (c .before .before .before .before .before .before .before .pins-from .result) (c .before .before .before .before .before .before .pins-item .result) (c .before .before .before .before .levels-from .result) r (c .before .before .before .before .before .before .before .pins-from .ensures)
-    (c .before .before .before .before .before .before .pins-item .ensures) (c .before .before .before .before .levels-from .ensures) (c .before .before .before .mangle-address .ensures) in
+    (entry .levels .now) (pins .result) (set .result) (levels .result) r (pins .ensures) (set .ensures) (levels .ensures) (c .before .before .before .mangle-by .ensures) in
     (ap (λ (t : Mangled). t .number) told, kept-value (r .number) _ _ (c .before .if1 .taken))
 
 returns-2 : tie.Need-returns-2
 returns-2 c =
     let entry = c .before .before .before .before .before .before .before .before .before .before .before .args in
-    let r = c .before .before .mangle-address .result in
+    let pins = c .before .before .before .before .before .before .pins-from in
+    let levels = c .before .before .before .before .levels-from in
+    let set = c .before .before .before .governing in
+    let r = c .before .before .mangle-by .result in
     let told =
     mangled (entry .pins-number) (entry .rom-pins) (entry .addr .now) (entry .control .now) (entry .served) (entry .set-rows .now) (entry .rom-rows .now) (entry .address)
-    (entry .levels .now) (c .before .before .before .before .before .before .pins-from .result) (c .before .before .before .before .before .pins-item .result) (c .before .before .before .levels-from .result) r (c .before .before .before .before .before .before .pins-from .ensures)
-    (c .before .before .before .before .before .pins-item .ensures) (c .before .before .before .levels-from .ensures) (c .before .before .mangle-address .ensures) in
+    (entry .levels .now) (pins .result) (set .result) (levels .result) r (pins .ensures) (set .ensures) (levels .ensures) (c .before .before .mangle-by .ensures) in
     let zero : r .number ≡ 0 = omega arith in
     (sym zero ∙ ap (λ (t : Mangled). t .number) told, ap (λ (t : Mangled). t .value) told)
 
@@ -47,9 +51,9 @@ onerom-mangle-spec =
     tie.close
     (tie.spec
     pins-from-requires
-    pins-item-requires
     levels-from-requires
-    mangle-address-requires
+    governing-requires
+    mangle-by-requires
     cast-result
     returns
     returns-2)

@@ -1,6 +1,7 @@
 -- The least of the pins, compared in pairs.
 -- Assumes nothing.
-use Prim.Native.Nat.{ℕ, suc, _≤_, _<_}
+use Prim.Native.Nat.{ℕ, zero, suc, _≤_, _<_}
+use native.Mathlib.Nat.{not-suc-le-zero, le-of-suc-le-suc}
 use native.Mathlib.Omega.{arith}
 use mathlib.Core.Path.{_≡_, refl, sym, ap, _∙_}
 use mathlib.Core.Bool.{Bool, true, false}
@@ -10,7 +11,8 @@ use lib.ListN.{length, getD, drop, drop-of-length-le}
 use lib.Seq.{drop-cons}
 use borrow.Author.Tests.{ltb-true, ltb-false, lt-ltb, le-ltb}
 use Rattle.le.specs.Choice.{pick}
-use Rattle.mangle.specs.BaseZero.{leastOf}
+use Rattle.pins.specs.declared.SdrrPins.{SdrrPins}
+use Rattle.mangle.specs.BaseZero.{has24, controls, leastOf, leastPin}
 
 unfoldable pub lesser : (a b : ℕ) → ℕ
 lesser a b = pick (ltb a b) a b
@@ -114,3 +116,40 @@ least-seven a b c d e f g m k l r h i j =
     ∙ ap (lesser (leastOfFour d e f g)) (h ∙ sym (three a b c m))
     ∙ sym (four d e f g (lesser c (lesser b (lesser a m))))
     ∙ sym (seven a b c d e f g m)
+
+-- ---- the least pin is at most each address pin
+
+-- m is at most each of the pins
+abbrev pub allFrom : ℕ → List ℕ → Type 0
+allFrom m ps = (i : ℕ) → i < length ps → m ≤ getD ps i 0
+
+pick-le : (p m : ℕ) → (pick (ltb p m) p m ≤ p) × (pick (ltb p m) p m ≤ m)
+pick-le p m = go (ltb p m) refl
+  where
+    go : (c : Bool) → ltb p m ≡ c → (pick c p m ≤ p) × (pick c p m ≤ m)
+    go true e = let h = ltb-true p m e in (omega arith, omega arith)
+    go false e = let h = ltb-false p m e in (omega arith, omega arith)
+
+least-le : (ps : List ℕ) (m : ℕ) → leastOf ps m ≤ m
+unfolding leastOf
+least-le [] m = omega arith
+least-le (p ∷ ps) m =
+    let h = least-le ps (pick (ltb p m) p m) in
+    let k = pick-le p m .1 in
+    omega arith
+
+least-at : (ps : List ℕ) (m : ℕ) → allFrom (leastOf ps m) ps
+unfolding leastOf
+least-at [] m i h = absurd (not-suc-le-zero h)
+least-at (p ∷ ps) m zero h =
+    let k = least-le ps (pick (ltb p m) p m) in
+    let l = pick-le p m .0 in
+    omega arith
+least-at (p ∷ ps) m (suc i) h = least-at ps (pick (ltb p m) p m) i (le-of-suc-le-suc h)
+
+pub least-from : (pins : SdrrPins) → allFrom (leastPin pins) (pins .addr)
+unfolding leastPin
+least-from pins i h =
+    let k = least-le (pick (has24 pins) (controls pins) []) (leastOf (pins .addr) 255) in
+    let l = least-at (pins .addr) 255 i h in
+    omega arith

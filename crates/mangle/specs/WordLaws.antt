@@ -9,7 +9,7 @@ use mathlib.Core.List.{List, [], _∷_, map}
 use lib.Bits.{bitAnd, bitOr, and-block, and-mask, and-le-l, and-zero-r, or-add-and, or-lt}
 use lib.Dec.{ltb, eqb}
 use lib.ListN.{length, getD, set, length-set, List·getD-eq-default}
-use lib.Pow.{split, pow-pos, pow-lt, ones-split, ones-lt, high}
+use lib.Pow.{split, pow-add, pow-pos, pow-lt, shl-shr, ones-split, ones-lt, high}
 use lib.Seq.{set-out}
 use borrow.Author.Tests.{ltb-true, ltb-false, eqb-true, eqb-false, lt-ltb, le-ltb, ne-eqb}
 use Rattle.le.specs.Choice.{pick}
@@ -54,6 +54,24 @@ on-lt v p b h k = go (ltb p 16) refl
         let u = and-le-l v (2 ^ p) in
         omega arith
     go false e = h
+
+-- a pin at level b, from its bit q
+pub level-on : (v p q b : ℕ) → p < 16 → q ≡ 2 ^ p → v - bitAnd v q + b * q ≡ onPin v p b
+unfolding onPin
+level-on v p q b h e = rw (e, lt-ltb p 16 h, and-bit v p) refl
+
+pub or-on : (v p q : ℕ) → p < 16 → q ≡ 2 ^ p → bitOr v q ≡ onPin v p 1
+or-on v p q h e =
+    let s = or-add-and v q in
+    let u = and-le-l v q in
+    let l : v - bitAnd v q + 1 * q ≡ onPin v p 1 = level-on v p q 1 h e in
+    omega arith
+
+-- a bit from the highest of the sixteen
+pub top-shr : (p q : ℕ) → p + q ≡ 15 → 32768 / 2 ^ q ≡ 2 ^ p
+top-shr p q h =
+    let e : 32768 ≡ 2 ^ p * 2 ^ q = ap (λ n. 2 ^ n) (sym h) ∙ pow-add 2 p q in
+    ap (λ n. n / 2 ^ q) e ∙ shl-shr (2 ^ p) q
 
 pub x-lt : (v x1 x2 w : ℕ) → v < 65536 → onX v x1 x2 w < 65536
 unfolding onX

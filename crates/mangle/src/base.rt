@@ -21,7 +21,7 @@ fn least_of_four(a: u8, b: u8, c: u8, d: u8) -> u8
 }
 
 // p less m, and 0 where m is the greater.
-pub(crate) fn less(p: u8, m: u8) -> u8
+fn less(p: u8, m: u8) -> u8
     ensures { λ r. ⌜ r ≡ p - m ⌝ }
 {
     if p < m { 0 } else { p - m }

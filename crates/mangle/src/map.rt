@@ -2,7 +2,6 @@
 // the bit of an earlier one. A pin is lowered where it is used: address pins by m, the others by k.
 use super::Mangled;
 use super::Placed;
-use super::base::less;
 use super::base::lower;
 use super::bits::bit_of;
 use super::rules::control_bits;
@@ -12,11 +11,13 @@ use types::SdrrRomType;
 ghost use mathlib.Core.Path.{_≡_};
 ghost use mathlib.Core.Bool.{_&&_, _||_};
 ghost use mathlib.Core.List.{map};
-ghost use Prim.Native.Nat.{_<_};
+ghost use Prim.Native.Nat.{_+_, _*_, _-_, _^_, _≤_, _<_};
+ghost use lib.Bits.{bitAnd};
 ghost use Rattle.le.specs.Choice.{pick};
 ghost use Rattle.mangle.specs.BaseZero.{lowered};
 ghost use Rattle.mangle.specs.Rules.{isBit};
 ghost use Rattle.mangle.specs.PinMap.{off, controlOff};
+ghost use Rattle.mangle.specs.LeastLaws.{allFrom};
 ghost use Rattle.mangle.specs.WordLaws.{limit};
 ghost use Rattle.mangle.specs.Words.{onPin, stepPin, placed, isHighPin, onX, onControl, onControls, wordNumber, wholeWord, mangleWord};
 
@@ -43,23 +44,52 @@ fn limit(m: u8) -> u8
     if m < 239 { m + 16 } else { 255 }
 }
 
+// The bit of a pin that lies from m to m + 15, once lowered by m. The highest bit goes down: a right shift of a constant is one operation,
+// where a left shift of 1 becomes two slow ones.
+fn pin_bit(m: u8, pin: u8) -> u32
+    requires { ⌜ (m ≤ pin) × (pin < m + 16) ⌝ }
+    ensures { λ r. ⌜ r ≡ 2 ^ (pin - m) ⌝ }
+{
+    let q = (m as u32) + 15 - (pin as u32);
+    0x8000 >> q
+}
+
+// What a level takes off a bit that is set: the bit where it is low.
+fn low_bit(bit: u32, b: u32) -> u32
+    requires { ⌜ b < 2 ⌝ }
+    ensures { λ r. ⌜ r + b * bit ≡ bit ⌝ }
+{
+    if b == 0 { bit } else { 0 }
+}
+
+// A bit of v at level b: set first, and taken off where b is low.
+fn with_level(v: u32, bit: u32, b: u32) -> u32
+    requires { ⌜ b < 2 ⌝ }
+    ensures { λ r. ⌜ r ≡ v - bitAnd v bit + b * bit ⌝ }
+{
+    (v | bit) - low_bit(bit, b)
+}
+
 // Bit i of the word on a pin, which is lowered by m; with one test of the pin instead of two.
 fn one_pin(s: Placed, m: u8, lim: u8, pin: u8, word: u32, i: u8) -> Placed
-    requires { ⌜ (lim ≡ limit m) × (i < 32) × (s .value < 65536) × (s .mapped < 65536) ⌝ }
+    requires { ⌜ (lim ≡ limit m) × (i < 32) × (s .value < 65536) × (s .mapped < 65536) × (m ≤ pin) ⌝ }
     ensures reply { λ r. ⌜ r ≡ stepPin s (lowered m pin) word i ⌝ }
     ensures below { λ r. ⌜ (r .value < 65536) × (r .mapped < 65536) ⌝ }
 {
     if lim <= pin {
         return s;
     }
-    let p = less(pin, m);
-    let value = put_at(s.value, p, bit_of(word, i));
-    let mapped = put_at(s.mapped, p, 1);
-    Placed { value, mapped }
+    let bit = pin_bit(m, pin);
+    let value = with_level(s.value, bit, bit_of(word, i));
+    Placed {
+        value,
+        mapped: s.mapped | bit,
+    }
 }
 
 // The word's bits on the address pins, which are lowered by m first. Written out: a loop of sixteen is not unrolled.
 pub(crate) fn address_pins(m: u8, addr: [u8; 16], word: u32) -> Placed
+    requires { ⌜ allFrom m addr ⌝ }
     ensures { λ r. ⌜ r ≡ placed (map (lowered m) addr) word ⌝ }
 {
     let lim = limit(m);

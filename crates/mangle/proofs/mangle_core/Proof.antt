@@ -1,6 +1,7 @@
 use native.Mathlib.Omega.{arith}
 use borrow.Author.Needs.{needs}
 use Rattle.mangle.specs.BaseZero.{baseZero, loweredBy}
+use Rattle.mangle.specs.LeastLaws.{least-from}
 use Rattle.mangle.specs.WordLaws.{pins-lt, word-core}
 use Rattle.mangle.proofs.mangle_core.Statement.{statement}
 use Rattle.mangle.proofs.mangle_core.Tie as tie
@@ -18,7 +19,9 @@ input-word-requires : tie.Need-input-word-requires
 input-word-requires c κs = search needs
 
 address-pins-requires : tie.Need-address-pins-requires
-address-pins-requires c κs = search needs
+address-pins-requires c κs =
+    let l = c .before .before .before .before in
+    rw (l .least-pin .ensures) (least-from (l .before .args .pins))
 
 mangle-word-requires : tie.Need-mangle-word-requires
 mangle-word-requires c κs = rw (c .address-pins .ensures) (pins-lt _ 0 _ 0 (omega arith))

@@ -44,14 +44,13 @@ fn limit(m: u8) -> u8
     if m < 239 { m + 16 } else { 255 }
 }
 
-// The bit of a pin that lies from m to m + 15, once lowered by m. The highest bit goes down: a right shift of a constant is one operation,
-// where a left shift of 1 becomes two slow ones.
-fn pin_bit(m: u8, pin: u8) -> u32
-    requires { ⌜ (m ≤ pin) × (pin < m + 16) ⌝ }
-    ensures { λ r. ⌜ r ≡ 2 ^ (pin - m) ⌝ }
+// The bit of a pin among the sixteen up to top. It comes down from the highest: a right shift of a constant is one operation, where a left
+// shift of 1 becomes two slow ones.
+fn pin_bit(top: u32, pin: u8) -> u32
+    requires { ⌜ (pin ≤ top) × (top < pin + 16) ⌝ }
+    ensures { λ r. ⌜ r ≡ 2 ^ (pin + 15 - top) ⌝ }
 {
-    let q = (m as u32) + 15 - (pin as u32);
-    0x8000 >> q
+    0x8000 >> (top - (pin as u32))
 }
 
 // What a level takes off a bit that is set: the bit where it is low.
@@ -70,16 +69,17 @@ fn with_level(v: u32, bit: u32, b: u32) -> u32
     (v | bit) - low_bit(bit, b)
 }
 
-// Bit i of the word on a pin, which is lowered by m; with one test of the pin instead of two.
-fn one_pin(s: Placed, m: u8, lim: u8, pin: u8, word: u32, i: u8) -> Placed
-    requires { ⌜ (lim ≡ limit m) × (i < 32) × (s .value < 65536) × (s .mapped < 65536) × (m ≤ pin) ⌝ }
+// Bit i of the word on a pin, which is lowered by m; with one test of the pin instead of two. The code goes by top, which is made once for
+// all the pins; m is what the contract says it by.
+fn one_pin(s: Placed, m: u8, top: u32, lim: u8, pin: u8, word: u32, i: u8) -> Placed
+    requires { ⌜ (lim ≡ limit m) × (i < 32) × (s .value < 65536) × (s .mapped < 65536) × (m ≤ pin) × (top ≡ m + 15) ⌝ }
     ensures reply { λ r. ⌜ r ≡ stepPin s (lowered m pin) word i ⌝ }
     ensures below { λ r. ⌜ (r .value < 65536) × (r .mapped < 65536) ⌝ }
 {
     if lim <= pin {
         return s;
     }
-    let bit = pin_bit(m, pin);
+    let bit = pin_bit(top, pin);
     let value = with_level(s.value, bit, bit_of(word, i));
     Placed {
         value,
@@ -93,26 +93,27 @@ pub(crate) fn address_pins(m: u8, addr: [u8; 16], word: u32) -> Placed
     ensures { λ r. ⌜ r ≡ placed (map (lowered m) addr) word ⌝ }
 {
     let lim = limit(m);
+    let top = (m as u32) + 15;
     let s0 = Placed {
         value: 0,
         mapped: 0,
     };
-    let s1 = one_pin(s0, m, lim, addr[0], word, 0);
-    let s2 = one_pin(s1, m, lim, addr[1], word, 1);
-    let s3 = one_pin(s2, m, lim, addr[2], word, 2);
-    let s4 = one_pin(s3, m, lim, addr[3], word, 3);
-    let s5 = one_pin(s4, m, lim, addr[4], word, 4);
-    let s6 = one_pin(s5, m, lim, addr[5], word, 5);
-    let s7 = one_pin(s6, m, lim, addr[6], word, 6);
-    let s8 = one_pin(s7, m, lim, addr[7], word, 7);
-    let s9 = one_pin(s8, m, lim, addr[8], word, 8);
-    let s10 = one_pin(s9, m, lim, addr[9], word, 9);
-    let s11 = one_pin(s10, m, lim, addr[10], word, 10);
-    let s12 = one_pin(s11, m, lim, addr[11], word, 11);
-    let s13 = one_pin(s12, m, lim, addr[12], word, 12);
-    let s14 = one_pin(s13, m, lim, addr[13], word, 13);
-    let s15 = one_pin(s14, m, lim, addr[14], word, 14);
-    one_pin(s15, m, lim, addr[15], word, 15)
+    let s1 = one_pin(s0, m, top, lim, addr[0], word, 0);
+    let s2 = one_pin(s1, m, top, lim, addr[1], word, 1);
+    let s3 = one_pin(s2, m, top, lim, addr[2], word, 2);
+    let s4 = one_pin(s3, m, top, lim, addr[3], word, 3);
+    let s5 = one_pin(s4, m, top, lim, addr[4], word, 4);
+    let s6 = one_pin(s5, m, top, lim, addr[5], word, 5);
+    let s7 = one_pin(s6, m, top, lim, addr[6], word, 6);
+    let s8 = one_pin(s7, m, top, lim, addr[7], word, 7);
+    let s9 = one_pin(s8, m, top, lim, addr[8], word, 8);
+    let s10 = one_pin(s9, m, top, lim, addr[9], word, 9);
+    let s11 = one_pin(s10, m, top, lim, addr[10], word, 10);
+    let s12 = one_pin(s11, m, top, lim, addr[11], word, 11);
+    let s13 = one_pin(s12, m, top, lim, addr[12], word, 12);
+    let s14 = one_pin(s13, m, top, lim, addr[13], word, 13);
+    let s15 = one_pin(s14, m, top, lim, addr[14], word, 14);
+    one_pin(s15, m, top, lim, addr[15], word, 15)
 }
 
 fn is_high_pin(v: u32, pin: u8) -> bool

@@ -1,6 +1,6 @@
-use Prim.Native.Nat.{_-_, _≤_}
+use Prim.Native.Nat.{_+_, _-_, _^_, _≤_}
 use native.Mathlib.Omega.{arith}
-use mathlib.Core.Path.{refl, sym, _∙_}
+use mathlib.Core.Path.{_≡_, refl, sym, ap, _∙_}
 use borrow.Author.Needs.{needs}
 use borrow.Author.Tests.{le-ltb}
 use Rattle.mangle.specs.BaseZero.{lowered}
@@ -26,7 +26,8 @@ pin-bit-requires c κs =
     let i = limit-in (a .m) (a .pin) (rw (sym (s .pre .0)) (c .if1 .left)) in
     let h = s .pre .4 in
     let k = i .1 in
-    (h, omega arith)
+    let e = s .pre .5 in
+    (omega arith, omega arith)
 
 bit-of-requires : tie.Need-bit-of-requires
 bit-of-requires c κs = search needs
@@ -45,8 +46,11 @@ returns-2 c =
     let s = t .before in
     let a = s .args in
     let i = limit-in (a .m) (a .pin) (rw (sym (s .pre .0)) (t .if1 .left)) in
-    let v = w .with-level .ensures ∙ level-on (a .s .value) (a .pin - a .m) (q .pin-bit .result) (b .bit-of .result) (i .1) (q .pin-bit .ensures) in
-    let u = or-on (a .s .mapped) (a .pin - a .m) (q .pin-bit .result) (i .1) (q .pin-bit .ensures) in (
+    let e = s .pre .5 in
+    let d : a .pin + 15 - a .top ≡ a .pin - a .m = omega arith in
+    let p = q .pin-bit .ensures ∙ ap (λ n. 2 ^ n) d in
+    let v = w .with-level .ensures ∙ level-on (a .s .value) (a .pin - a .m) (q .pin-bit .result) (b .bit-of .result) (i .1) p in
+    let u = or-on (a .s .mapped) (a .pin - a .m) (q .pin-bit .result) (i .1) p in (
       rw (v, u, i .0, b .bit-of .ensures, all-taken (a .i) (s .pre .1)) refl,
       (
         rw (v, b .bit-of .ensures) (on-lt (a .s .value) (a .pin - a .m) (taken (a .word) (a .i)) (s .pre .2) (taken-lt (a .word) (a .i))),

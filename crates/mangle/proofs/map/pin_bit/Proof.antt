@@ -5,11 +5,8 @@ use Rattle.mangle.specs.WordLaws.{top-shr}
 use Rattle.mangle.proofs.map.pin_bit.Statement.{statement}
 use Rattle.mangle.proofs.map.pin_bit.Tie as tie
 
-add-q : tie.Need-add-q
-add-q c = search needs
-
-sub-q : tie.Need-sub-q
-sub-q c = search needs
+sub-result : tie.Need-sub-result
+sub-result c = search needs
 
 shr-result : tie.Need-shr-result
 shr-result c = search needs
@@ -19,7 +16,7 @@ returns c =
     let a = c .args in
     let h = c .pre .0 in
     let k = c .pre .1 in
-    top-shr (a .pin - a .m) (a .m + 15 - a .pin) (omega arith)
+    top-shr (a .pin + 15 - a .top) (a .top - a .pin) (omega arith)
 
 pub pin-bit-spec : {M : Type 1} → statement M
-pin-bit-spec = tie.close (tie.spec add-q sub-q shr-result returns)
+pin-bit-spec = tie.close (tie.spec sub-result shr-result returns)

@@ -6,14 +6,15 @@ use std::time::Instant;
 
 use host::ffi::{self, Address, COpening, Lent, Rows};
 use host::fixed::measured;
-use host::image::Board;
+use host::image::{Board, PINS_PTR};
 use host::rng::Rng;
 use onerom_fw_parser::readers::{Window, block_on};
 use onerom_fw_parser::{Parser, SdrrAddress, SdrrCsSet, SdrrInfo, SdrrLogicalAddress};
 
-/// 23512: sixteen address bits, so that a logical read can reach all of a 64 KiB set. 2364 for the mangles.
+/// 23512: sixteen address bits, so that a logical read can reach all of a 64 KiB set. 2364 and 2316 for the mangles.
 const ROM_23512: u8 = 5;
 const ROM_2364: u8 = 2;
+const ROM_2316: u8 = 0;
 const SET: usize = 65536;
 
 /// The least nanoseconds of one operation on each side.
@@ -113,34 +114,48 @@ fn pins_of(info: &SdrrInfo) -> ffi::Pins {
     }
 }
 
+/// The board with 24 pins, counted from pin 8, X1 and X2 among them.
+fn with_24_pins(mut board: Board) -> Board {
+    let pointer: [u8; 4] = board.image[PINS_PTR..PINS_PTR + 4].try_into().expect("four");
+    let pins = (u32::from_le_bytes(pointer) - board.flash_base) as usize;
+    board.put(pins + 5, &[24]);
+    board.put(pins + 16, &[18, 17, 16, 15, 14, 13, 12, 11, 10, 9, 8, 255, 255, 255, 255, 255]);
+    board.put(pins + 36, &[21, 22, 23, 0, 0, 0, 19, 20, 255, 255]);
+    board
+}
+
 fn mangles(bench: &Bench) {
-    const N: u32 = 8192;
-    let o = open(measured(1, 1, ROM_2364, 64));
+    mangles_on(bench, "mangle", measured(1, 1, ROM_2364, 64), 8192);
+    mangles_on(bench, "mangle, 24 pins, three ROMs", with_24_pins(measured(1, 3, ROM_2316, 64)), 2048);
+}
+
+fn mangles_on(bench: &Bench, what: &str, board: Board, addresses: u32) {
+    let o = open(board);
     let pins = pins_of(&o.info);
     let rows = Rows { served: 1, sets: &o.sets, roms: &o.roms };
-    let levels = [1, 0, 0, 0, 0];
-    let lines = SdrrCsSet::new(true, Some(false), Some(false), Some(false), Some(false));
+    let levels = [1, 0, 0, 0, 1];
+    let lines = SdrrCsSet::new(true, Some(false), Some(false), Some(false), Some(true));
     let here = |address: u32| {
         let mut value = 0;
         assert!(ffi::mangle(&pins, rows, address, &levels, &mut value) == 0);
         value
     };
     let rust = |address: u32| o.info.mangle_address(&SdrrLogicalAddress::new(address, lines)).expect("it has an offset");
-    assert!((0..N).all(|a| here(a) == rust(a)), "both mangle alike");
+    assert!((0..addresses).all(|a| here(a) == rust(a)), "both mangle alike");
     let least = bench.turns(
-        N as usize,
+        addresses as usize,
         || {
-            for a in 0..N {
+            for a in 0..addresses {
                 black_box(here(black_box(a)));
             }
         },
         || {
-            for a in 0..N {
+            for a in 0..addresses {
                 black_box(rust(black_box(a)));
             }
         },
     );
-    show("mangle", &least);
+    show(what, &least);
 }
 
 fn demangles(bench: &Bench) {

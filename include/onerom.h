@@ -1,7 +1,7 @@
 /* The proved One ROM board reader: what C and Rust call.
  *
  * Link with libonerom.a (`rt staticlib onerom` writes target/staticlib/libonerom.a).
- * Every call answers a number: 0 accepted, otherwise the refusal's number of document 01.
+ * Every call answers a number, onerom_open in a struct: 0 accepted, otherwise the refusal's number of document 01.
  * Pointers: a part of length 0 may be NULL; what one call is lent may not overlap.
  * A refused call changes no byte and no word of what it is lent. */
 #ifndef ONEROM_H
@@ -83,8 +83,8 @@ uint32_t onerom_string(const uint8_t *image, size_t image_len, uint32_t base, ui
  * levels         CS1, CS2, CS3, X1, X2: 1 is high, every other is low
  * value          the offset, written where the address is accepted
  *
- * 70: no pins. 71: no sets. 4: a needed row isn't among those lent, or its type is above 33. 72: X1 or X2 at 16 or above.
- * 73: either already mapped. 74: set 0 has no ROM. 75: unsupported type. 76: a control pin at 16 or above.
+ * 70: no pins. 71: no sets. 4: a needed row isn't among those lent, or its type is above 33. With several ROMs, 72: X1 or X2 at 16
+ * or above; 73: an address line has its pin. 74: set 0 has no ROM. 75: unsupported type. 76: a control pin at 16 or above.
  * 77: address above the mask. 78: 28C16. */
 uint32_t onerom_mangle(uint8_t pins_number, uint8_t rom_pins, const uint8_t addr[16], const uint8_t control[7], uint32_t served,
                        const uint32_t *set_rows, size_t set_words, const uint32_t *rom_rows, size_t rom_words, uint32_t address,
@@ -122,7 +122,7 @@ struct onerom_header {
     uint8_t boot_config[4];
 };
 
-/* Extra info. number: 0 accepted; 3 below base; 2 ended: then zeros, and the runtime pointer is FFFFFFFF. */
+/* Extra info. number: 0 accepted; 3 below base; 2 ended: then zeros, but PIO is not given (2) and the runtime pointer FFFFFFFF. */
 struct onerom_extra_info {
     uint8_t number;
     uint8_t usb_dfu;
@@ -178,7 +178,7 @@ struct onerom_report {
 
 struct onerom_opening {
     uint32_t number; /* 0 opened, otherwise the refusal */
-    struct onerom_report report;
+    struct onerom_report report; /* of a refused opening: zeros, but extra info as where it is refused */
 };
 
 /* A set row is eight words: data pointer, size, first ROM row, ROM count, serve, state, config address, overrides address

@@ -19,7 +19,7 @@ use Rattle.extra_info.specs.declared.ExtraInfoItem.{ExtraInfoItem}
 abbrev pub pioDefaultOf : FirmwareVersion → List ℕ → FirePioDefault
 pioDefaultOf v s = pick (from060 v) (FirePioDefault.Given (flagAt s 7)) FirePioDefault.NotGiven
 
--- RTT pointer 0, DFU flag 4, USB port 5 (unknown values become None), VBUS pin 6, PIO default flag 7, runtime pointer 8
+-- where each field stands in the record; a USB port that is not known counts as none
 unfoldable pub fieldsOf : FirmwareVersion → List ℕ → SdrrExtraInfo
 fieldsOf v s =
     record {

@@ -38,7 +38,7 @@ Opens (refused n) = ⊥
 Opens (opened r ss names) = Unit {0}
 
 pub record Demand3 (s : Settings) (sets roms : List ℕ) (x : List ℕ) (k : ℕ) : Type 0 where
-  -- a cut at or past the reach gives an equal report and equal rows
+  -- cut at the reach or behind it, nothing changes: neither the report nor a row
   pub report-past : reach (openP s (length sets) (length roms)) x ≤ k → opening s (length sets) (length roms) (take k x) ≡ opening s (length sets) (length roms) x
   pub set-rows-past :
       reach (openP s (length sets) (length roms)) x ≤ k
@@ -46,11 +46,11 @@ pub record Demand3 (s : Settings) (sets roms : List ℕ) (x : List ℕ) (k : ℕ
   pub rom-rows-past :
       reach (openP s (length sets) (length roms)) x ≤ k
       → romRowsLeft (opening s (length sets) (length roms) (take k x)) roms ≡ romRowsLeft (opening s (length sets) (length roms) x) roms
-  -- a cut below it refuses the opening as ended or marks at least one item as ended, names being items too
+  -- cut before the reach, the opening says so: it is refused as ended, or some item is, a name perhaps
   pub ended-below : k < reach (openP s (length sets) (length roms)) x → EndedOpening (opening s (length sets) (length roms) (take k x))
-  -- and every item it shows that is not ended equals the whole image's
+  -- and what is shown without that mark is the whole image's
   pub items-kept : KeptOpening (opening s (length sets) (length roms) (take k x)) (opening s (length sets) (length roms) x)
-  -- any ROM read that the cut image accepts as the first after its opening, the whole image accepts, and gives the same bytes
+  -- a first ROM read that succeeds on the cut image succeeds on the whole, with the same bytes
   pub reads-kept : (r : RomRead) (bs : List ℕ) → FirstRead s sets roms (take k x) r bs → FirstRead s sets roms x r bs
 
 -- ---- the proof

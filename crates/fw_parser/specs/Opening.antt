@@ -78,7 +78,7 @@ rowP base h =
 
 -- ---- the report
 
--- A refused walk keeps the set count and serves no set. The sets served are the set count where the sets item is accepted, otherwise none.
+-- An accepted item serves as many sets as are counted. A refused walk keeps that count and serves none.
 abbrev pub setsItem : ℕ → Part (List RomSet) → SetsItem
 setsItem count (stop n passed) = record { number = n; «rom_set_count» = count; served = 0 }
 setsItem count (found ss) = record { number = 0; «rom_set_count» = count; served = count }

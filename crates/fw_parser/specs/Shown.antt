@@ -32,8 +32,8 @@ abbrev pub EndedOpening : Opened → Type 0
 EndedOpening (refused n) = n ≡ 2
 EndedOpening (opened r ss names) = EndedReport r names
 
--- Every item that the first shows and that is not ended equals the second's. The header's fields, set count and sets pointer aside, are one
--- item more. Ended sets serve none. The sets item holds the set count, the sets served and the rows without the names' words; a name holds those words.
+-- Item for item: the first's is ended, or the same in the second. The header's fields, without set count and sets pointer, count as an item. Sets
+-- that are ended serve none. The rows go with the sets item, but for the words of the names, which are items themselves.
 pub record Kept (r : SdrrInfo) (ss : List RomSet) (names : List Text) (r′ : SdrrInfo) (ss′ : List RomSet) (names′ : List Text) : Type 0 where
   pub header : r .fields ≡ r′ .fields
   pub build-date : (r .«build_date» .number ≡ 2) ⊎ (r .«build_date» ≡ r′ .«build_date»)

@@ -1,4 +1,4 @@
--- Demands 1 and 3 for the calls that C and Rust make, in one place.
+-- Demand 3 for the calls that C and Rust make, in one place, and of demand 1 what a refused read leaves. (Of the opening: fw_parser/Promises.)
 -- `onerom_open` ensures: its reply is `openingOut (openCall …)`, the rows afterwards are `setRowsLeft (openCall …)` and `romRowsLeft (openCall …)`.
 -- `onerom_read_rom_set_data` ensures number, count and buffer of `dataCall …`; the byte reads those of `byteCall …`. Both are `romRead` with
 -- what the handed-back report says (`boardIn`). The image and rows of a read are lent for reading only.
@@ -6,8 +6,8 @@
 -- Assumes nothing.
 use Prim.Native.Nat.{ℕ}
 use mathlib.Core.Path.{_≡_, refl, sym, ap, _∙_}
-use mathlib.Core.Bool.{true, false}
-use mathlib.Core.List.{List}
+use mathlib.Core.Bool.{Bool, true, false}
+use mathlib.Core.List.{List, []}
 use lib.ListN.{length, take}
 use Rattle.types.specs.declared.McuLine.{McuLine}
 use Rattle.text.specs.declared.Text.{Text}
@@ -17,16 +17,42 @@ use Rattle.walk.specs.Walk.{RomSet, romsOf}
 use Rattle.walk.specs.Rows.{setRows, romRows, overwritten}
 use Rattle.info.specs.declared.SdrrAddress.{SdrrAddress}
 use Rattle.info.specs.Lent.{Lent}
-use Rattle.info.specs.Reads.{RomRead, range, byte, lengthOf, shownByte, storedP, finished, readP, Reply, romRead}
-use Rattle.rom_reads.specs.Calls.{lentBy}
+use Rattle.info.specs.Reads.{RomRead, range, byte, lengthOf, shownByte, storedP, finished, readP, Reply, romRead, bufferLeft}
+use Rattle.rom_reads.specs.Calls.{lentBy, byteOf}
+use Rattle.rom_reads.specs.Promises.{refused-changes-nothing}
 use Rattle.fw_parser.specs.declared.Settings.{Settings}
 use Rattle.fw_parser.specs.declared.SdrrInfo.{SdrrInfo}
 use Rattle.fw_parser.specs.Opening.{Opened, opened, opening}
 use Rattle.fw_parser.specs.FirstRead.{lentOf, FirstRead}
 use Rattle.fw_parser.specs.Demand3.{Opens, Demand3, demand3}
+use Rattle.c_board.specs.Board.{addressFrom}
+use Rattle.c_report.specs.declared.OneromReport.{OneromReport}
 use Rattle.c_report.specs.Report.{reportOut, boardIn}
 use Rattle.c_report.specs.Handed.{handed-back}
 use Rattle.onerom.specs.Opening.{openCall}
+use Rattle.onerom.specs.Reads.{dataCall, byteCall}
+
+-- ---- the reads as they are called: each is a `romRead` by the report and rows as lent
+
+-- ROM data is given no ROM rows; with any its answer is the same
+pub data-is-read : (f c : ℕ) (report : OneromReport) (sets roms : List ℕ) (set offset n count : ℕ) (x : List ℕ)
+    → dataCall f c report sets set offset n count x ≡ romRead f c (lentBy (boardIn f c report) sets roms) count (range set offset n) x
+unfolding dataCall romRead readP storedP finished
+data-is-read f c report sets roms set offset n count x = refl
+
+pub byte-is-read : (demangled : Bool) (f c : ℕ) (report : OneromReport) (sets roms : List ℕ) (set logical address : ℕ) (levels : List ℕ) (count : ℕ) (x : List ℕ)
+    → byteCall demangled f c report sets roms set logical address levels count x
+    ≡ byteOf (romRead f c (lentBy (boardIn f c report) sets roms) count (byte set (addressFrom logical address levels) demangled) x)
+unfolding byteCall
+byte-is-read demangled f c report sets roms set logical address levels count x = refl
+
+-- a refused read of ROM data leaves the count and every byte of the lent buffer
+pub refused-data : (f c : ℕ) (report : OneromReport) (sets : List ℕ) (set offset n count : ℕ) (x buffer : List ℕ) → (dataCall f c report sets set offset n count x .number ≡ 0 → ⊥)
+    → (dataCall f c report sets set offset n count x .count ≡ count) × (bufferLeft (dataCall f c report sets set offset n count x) buffer ≡ buffer)
+unfolding dataCall
+refused-data f c report sets set offset n count x buffer h =
+    let kept = refused-changes-nothing f c (lentBy (boardIn f c report) sets []) x count buffer (range set offset n) h in
+    (kept .count-kept, kept .buffer-kept)
 
 -- ---- a report handed back unaltered: the reads are those of the opening's report
 

@@ -6,7 +6,7 @@ ghost use lib.ListN.{length};
 ghost use Rattle.fw_parser.specs.Opening.{setRowsLeft, romRowsLeft};
 ghost use Rattle.onerom.specs.Opening.{openCall, openingOut};
 
-// 0 and the report, or the number of the refusal and a report that is all zero.
+// 0 and the report, or the number of the refusal and a fixed report: zeros, but extra info's PIO flag and runtime pointer as where it is refused.
 #[repr(C)]
 pub struct OneromOpening {
     pub number: u32,

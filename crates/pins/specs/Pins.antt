@@ -22,8 +22,7 @@ sixteenAt s at = eightAt s at ++ eightAt s (at + 8)
 abbrev pub eightZeros : List ℕ
 eightZeros = 0 ∷ 0 ∷ 0 ∷ 0 ∷ 0 ∷ 0 ∷ 0 ∷ 0 ∷ []
 
--- Five ports 0..4, ROM pins 5, eight data pins at 8, sixteen address pins at 16, CS1..CS3 at 36, reserved 39..41, X1 42, X2 43, CE 44, OE 45,
--- X pull 46, SWCLK 50, SWDIO 51, sel 52..58, sel pull 59, status 60, extended 63; if 1, data2 64, addr2 72, otherwise both are zeros
+-- Where each field stands in the record. The second arrays count only where `extended` is 1; otherwise they are zeros.
 unfoldable pub fieldsOf : List ℕ → SdrrPins
 fieldsOf s =
     record {

@@ -22,7 +22,7 @@ magic = 115 ∷ 100 ∷ 114 ∷ 114 ∷ []
 abbrev pub sizeByte : List ℕ → ℕ
 sizeByte s = u8At s 4
 
--- image 5, set 6, counting 7 (kept as a number), access count 8, table pointer 12, table size 16; the access count stands at RAM base + 8
+-- where each field stands in the record; the counting byte stays a number, and the access count is told with its address in RAM
 unfoldable pub headOf : List ℕ → ℕ → SdrrRuntimeInfoHeader
 headOf s ramBase =
     record {
@@ -44,7 +44,7 @@ headerOf s ramBase =
     (pick (ltb 4294967295 (ramBase + 8)) (RuntimeHeader.Refused 62)
     (RuntimeHeader.Head (headOf s ramBase)))))
 
--- A group is present exactly if size byte and length reach its end and its kinds are known.
+-- A group is there where both the size byte and the record reach its end, and every kind in it is a known one.
 unfoldable pub reaches : List ℕ → ℕ → Bool
 reaches s end = leb end (sizeByte s) && leb end (length s)
 

@@ -1,4 +1,4 @@
--- Document 01, "Report": each ROM row's name is an item of its own, its number the row's reason.
+-- Document 01, "Report": names. A ROM's name is an item beside the sets item, and what it is refused with is the reason in its row.
 use Prim.Native.Nat.{ℕ}
 use mathlib.Core.List.{List, [], _∷_}
 use Rattle.prog.specs.Prog.{Prog, done, also, mapP, aside}

@@ -9,7 +9,7 @@ use Rattle.text.specs.Text.{refused}
 use Rattle.walk.specs.Walk.{Rom, RomSet, romsOf}
 pub use Rattle.rows.specs.LentRows.{setWidth, romWidth}
 
--- data pointer, size, first ROM row, ROM count, serve, state, config address, overrides address (0 absent)
+-- the eight words, in their order; an address of 0 says that there is none
 unfoldable pub setRow : ℕ → RomSet → List ℕ
 setRow first s =
     s .dataPointer ∷ s .size ∷ first ∷ s .romCount ∷ s .serve ∷ s .state ∷ s .config ∷ s .overrides ∷ []
@@ -30,8 +30,8 @@ setRows ss = setRowsAfter [] ss
 unfoldable pub romFront : Rom → List ℕ
 romFront r = r .romType ∷ r .cs1 ∷ r .cs2 ∷ r .cs3 ∷ []
 
--- the name's words: its image offset, length, and reason (0 named; 1 no pointer read or one below base or FFFFFFFF; otherwise the string's
--- number). A missing name has offset and length 0.
+-- the name's words: where it stands in the image, how long it is, and its reason: 0 where there is one, 1 where no pointer leads to one, and
+-- otherwise what the string was refused with; without a name the first two are 0
 unfoldable pub nameWords : Text → List ℕ
 nameWords t = t .offset ∷ t .length ∷ t .number ∷ []
 
@@ -43,7 +43,7 @@ unfoldable pub romRows : List Rom → List Text → List ℕ
 romRows [] ts = []
 romRows (r ∷ rs) ts = romRow r (getD ts 0 (refused 1)) ++ romRows rs (drop 1 ts)
 
--- "Walk": only a walk otherwise accepted gives 44: set rows short, then 45: ROM rows short. Short is counted in words.
+-- "Walk": 44 where the lent set rows do not suffice, then 45 where the ROM rows do not, and only where nothing else refuses. Counted in words.
 abbrev pub shortSets : List RomSet → ℕ → Bool
 shortSets ss lent = ltb lent (setWidth * length ss)
 

@@ -1,0 +1,76 @@
+"""Running the bench, and comparing what it says."""
+import os
+import re
+import subprocess
+import sys
+
+TOP = os.path.dirname(os.path.dirname(os.path.dirname(os.path.abspath(__file__))))
+sys.path.insert(0, os.path.join(TOP, "samples"))
+sys.dont_write_bytecode = True
+
+STORED = os.path.join(TOP, "tests", "data", "bench")
+PROGRAM = os.path.join(TOP, "target", "bin", "bench")
+
+
+def expect(is_right, what):
+    if not is_right:
+        sys.exit("bench: " + what)
+
+
+def same(got, wanted, what):
+    expect(got == wanted, "%s:\n  got    %r\n  wanted %r" % (what, got, wanted))
+
+
+def run(folder, *words):
+    done = subprocess.run([PROGRAM, *words], cwd=folder, stdin=subprocess.DEVNULL, capture_output=True, timeout=60)
+    same(done.returncode, 0, "exit status of bench " + " ".join(words))
+    return done.stdout, done.stderr
+
+
+def put(at, name, data):
+    with open(os.path.join(at, "made", name), "wb") as f:
+        f.write(data)
+    return "made/" + name
+
+
+def facts_of(at, *words):
+    out, err = run(at, *words, "--machine")
+    same(err, b"", "standard error of bench " + " ".join(words))
+    lines = out.decode().split("\n")
+    same((lines[0], lines[-2:]), ("ok", ["end", ""]), "first and last line of bench " + " ".join(words))
+    return [tuple(line.split(" ", 1)) for line in lines[1:-2]]
+
+
+def bytes_of(at, *words):
+    out, err = run(at, *words)
+    same(err, b"", "standard error of bench " + " ".join(words))
+    plain = run(at, *words, "--machine")
+    same(plain, (out, b"ok\nbytes %d\n" % len(out)), "bench --machine " + " ".join(words))
+    return out
+
+
+def words_of_numbers():
+    """The table in docs/BENCH.md."""
+    text = open(os.path.join(TOP, "docs", "BENCH.md"), encoding="utf-8").read()
+    table = text.split("## The numbers in words")[1]
+    return {int(n): words for n, words in re.findall(r"^\| (\d+) \| (.*) \|$", table, re.M)}
+
+
+def refused_whole(at, number, words, *arguments):
+    """The call is refused: its last line has the words, a script's first two have number and words, and there is nothing else."""
+    out, err = run(at, *arguments)
+    expect(out == b"" and err.count(b"\n") == 1, "%r: one line on standard error" % (arguments,))
+    said = "refused with %d: %s" % (number, words) if number < 100 else words
+    expect(err.decode().endswith(": " + said + "\n"), "%r: %r" % (arguments, err))
+    out, err = run(at, *arguments, "--machine")
+    to, other = (err, out) if "read" in arguments or "raw" in arguments else (out, err)
+    same((to.decode(), other), ("refused %d\nreason %s\n" % (number, words), b""), "%r" % (arguments,))
+
+
+def refused_item(at, number, words, item, image):
+    """The board opens, and an item of it is refused."""
+    file = put(at, "item.img", image)
+    got = dict(facts_of(at, file))
+    same((got[item + ".number"], got[item + ".reason"]), (str(number), words), "%s refused with %d" % (item, number))
+    out, err = run(at, file)
+    expect(err == b"" and ("refused with %d: %s\n" % (number, words)).encode() in out, "%s refused with %d, for a person" % (item, number))

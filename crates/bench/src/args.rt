@@ -179,7 +179,7 @@ fn take_option(request: Request, at: usize, option: u8) -> Request {
 fn take_refused(request: Request, word: &[u8]) -> Request {
     let mut r = request;
     let command = words::place(word, b"read|raw");
-    if le::both(r.command == REPORT, command < BYTE) {
+    if base::both(r.command == REPORT, command < BYTE) {
         r.command = command;
     }
     r
@@ -231,7 +231,7 @@ fn whole(request: Request) -> Request {
     if request.waiting != 255 {
         return stop(request, 102, about);
     }
-    if le::either(request.next == SET, request.next == ADDRESS) {
+    if base::either(request.next == SET, request.next == ADDRESS) {
         return stop(request, 104, request.command_at);
     }
     request

@@ -86,7 +86,7 @@ fn answer(request: Request, image: &[u8], info: SdrrInfo, set_rows: &[u32], rom_
 
 // An empty file is refused by the library with 2; for a person there are clearer words. Otherwise 2 is about the header.
 fn refused_opening(request: Request, number: u8, length: usize) {
-    let is_plain = le::both(length == 0, !request.machine);
+    let is_plain = base::both(length == 0, !request.machine);
     let n = if is_plain { 114 } else { number };
     if n == 2 {
         refuse::part(request, n, b", info header", &[]);

@@ -178,7 +178,7 @@ fn pins(is_machine: bool, i: PinsItem) {
 
 // What only a script is told of the pins.
 fn more_pins(is_machine: bool, i: PinsItem) {
-    if !le::both(is_machine, i.number == 0) {
+    if !base::both(is_machine, i.number == 0) {
         return;
     }
     let p = i.pins;
@@ -250,9 +250,9 @@ pub(crate) fn end_note(is_machine: bool, info: SdrrInfo, is_cut: bool) {
     let rev = info.hw_rev;
     let p = info.pins;
     let s = info.rom_sets;
-    let is_text = le::either(date.number == 2, rev.number == 2);
-    let is_record = le::either(p.number == 2, s.number == 2);
-    if le::either(is_cut, le::either(is_text, is_record)) {
+    let is_text = base::either(date.number == 2, rev.number == 2);
+    let is_record = base::either(p.number == 2, s.number == 2);
+    if base::either(is_cut, base::either(is_text, is_record)) {
         told(
             is_machine,
             b"\nthe dump may be cut short: what is refused with 2 does not all lie within it\n",

@@ -5,7 +5,7 @@ ghost use Prim.Native.Nat.{_≤_, _<_};
 
 fn is_same(served: u32, set_rows: &[u32], rom_rows: &[u32], a: u32, b: u32) -> bool {
     let v = same_set::same_set(served, set_rows, rom_rows, a, b);
-    le::both(v.number == 0, v.value == 1)
+    base::both(v.number == 0, v.value == 1)
 }
 
 // The first set that is the same as this one: this one itself where no earlier set is.
@@ -77,7 +77,7 @@ fn groups(served: u32, set_rows: &[u32], rom_rows: &[u32]) -> bool {
     let mut set = 0;
     while set < served {
         let found = group(served, set_rows, rom_rows, set);
-        any = le::either(any, found);
+        any = base::either(any, found);
         set += 1;
     }
     any

@@ -25,7 +25,7 @@ fn escaped(to: i32, b: u8) {
 pub(crate) fn character(to: i32, b: u8) {
     if b < 32 {
         escaped(to, b);
-    } else if le::either(126 < b, b == 92) {
+    } else if base::either(126 < b, b == 92) {
         escaped(to, b);
     } else {
         text(to, &[b]);

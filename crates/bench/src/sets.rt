@@ -172,7 +172,7 @@ fn all_sets(
     let mut i = 0;
     while i < served {
         let one = set(is_machine, image, board, set_rows, rom_rows, i);
-        is_cut = le::either(is_cut, one);
+        is_cut = base::either(is_cut, one);
         i += 1;
     }
     is_cut
@@ -188,7 +188,7 @@ fn count(is_machine: bool, item: SetsItem, is_lost: bool) {
             b"sets.count %d\nsets.served %d\n",
             &[counted, item.served],
         );
-    } else if le::both(accepted, is_lost) {
+    } else if base::both(accepted, is_lost) {
         say::text(STDOUT_FILENO, b"none can be found without metadata\n");
     } else if accepted {
         form(STDOUT_FILENO, b"%d\n", &[counted]);

@@ -8,7 +8,7 @@ pub(crate) struct Number {
 }
 
 fn is_word(word: &[u8], m: &[u8]) -> bool {
-    le::both(word.len() == m.len(), le::starts_with(word, m))
+    base::both(word.len() == m.len(), le::starts_with(word, m))
 }
 
 // Which entry of a table the word is: 0 for the first; 255 where it is none. Entries stand between bars.

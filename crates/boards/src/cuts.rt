@@ -139,7 +139,7 @@ fn sets_hold(
     cut_roms: &[u32],
 ) -> bool {
     if report::at(cut, 41) == 2 {
-        return le::both(words::is_untouched(cut_sets), words::is_untouched(cut_roms));
+        return base::both(words::is_untouched(cut_sets), words::is_untouched(cut_roms));
     }
     if !report::same(whole, cut, 41, 3) {
         return false;
@@ -159,7 +159,7 @@ fn ended_holds(
     cut_sets: &[u32],
     cut_roms: &[u32],
 ) -> bool {
-    if !le::either(item_ended(cut), name_ended(cut_roms)) {
+    if !base::either(item_ended(cut), name_ended(cut_roms)) {
         return false;
     }
     if !items_hold(whole, cut) {
@@ -197,8 +197,8 @@ fn holds(
     below: bool,
 ) -> bool {
     if number != 0 {
-        let kept = le::both(words::is_untouched(cut_sets), words::is_untouched(cut_roms));
-        return le::both(kept, le::both(below, number == 2));
+        let kept = base::both(words::is_untouched(cut_sets), words::is_untouched(cut_roms));
+        return base::both(kept, base::both(below, number == 2));
     }
     if below {
         return ended_holds(whole, cut, sets, roms, cut_sets, cut_roms);
@@ -223,7 +223,7 @@ fn whole_agrees(
     if w.number != 0 {
         return false;
     }
-    if le::either(w.value != r.value, w.count != r.count) {
+    if base::either(w.value != r.value, w.count != r.count) {
         return false;
     }
     if call.kind != 4 {
@@ -371,8 +371,8 @@ fn counted(t: Tally, number: u8, below: bool, held: bool, sum: u32) -> Tally {
     Tally {
         sum: words::mix(t.sum, sum),
         refused: one_more(t.refused, number != 0),
-        equal: one_more(t.equal, le::both(number == 0, !below)),
-        ended: one_more(t.ended, le::both(number == 0, below)),
+        equal: one_more(t.equal, base::both(number == 0, !below)),
+        ended: one_more(t.ended, base::both(number == 0, below)),
         reads: t.reads,
         failed: one_more(t.failed, !held),
     }

@@ -2,7 +2,7 @@
 use Prim.Native.Nat.{ℕ}
 use mathlib.Core.Bool.{Bool, true, false}
 use lib.Dec.{eqb}
-use Rattle.le.specs.Choice.{pick}
+use Rattle.base.specs.Choice.{pick}
 use Rattle.types.specs.declared.McuLine.{McuLine}
 use Rattle.types.specs.Types.{lineNumber, storageNumber, portNumber, portOf}
 use Rattle.text.specs.declared.Text.{Text}

@@ -10,7 +10,7 @@ use mathlib.Core.List.{List, [], _∷_, map}
 use lib.Dec.{ltb, eqb}
 use lib.ListN.{length, take, getD}
 use borrow.Author.Tests.{le-ltb, eq-eqb}
-use Rattle.le.specs.Choice.{pick}
+use Rattle.base.specs.Choice.{pick}
 use Rattle.prog.specs.Prog.{Prog, done, _>>=_, mapP, run}
 use Rattle.prog.specs.Run.{run-done}
 use Rattle.prog.specs.Cut.{Cut, OrEnded}

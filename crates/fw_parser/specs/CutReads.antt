@@ -8,7 +8,7 @@ use mathlib.Core.Bool.{Bool, true, false, _||_}
 use mathlib.Core.List.{List, [], _∷_, _++_, map}
 use lib.Dec.{ltb, eqb}
 use lib.ListN.{length, take, getD, drop, length-append, length-drop, length-map}
-use Rattle.le.specs.Choice.{pick}
+use Rattle.base.specs.Choice.{pick}
 use Rattle.prog.specs.Prog.{run}
 use Rattle.prog.specs.Honest.{honest-kept}
 use Rattle.header.specs.Header.{baseAfter}
@@ -65,13 +65,10 @@ module _ {r r′ : SdrrInfo} {ss ss′ : List RomSet} {names names′ : List Tex
 
 -- ---- a read on the cut image, and on the whole
 
-clash : {n : ℕ} → n ≡ 2 → n ≡ 0 → ⊥
-clash e f = omega arith
-
 module _ {l m : Lent} (like : Like l m) (base : ℕ) (r : RomRead) (x : List ℕ) (k : ℕ) where
   pub read-kept : run (readP base l 0 r) (take k x) .number ≡ 0 → run (readP base l 0 r) (take k x) ≡ run (readP base m 0 r) x
   read-kept e =
       let a : run (readP base l 0 r) (take k x) ≡ run (readP base m 0 r) (take k x) = read-like like base 0 r (take k x) e in
       a
-      ∙ ⊎-elim (λ (h : run (readP base m 0 r) (take k x) .number ≡ 2). absurd (clash h (ap (λ (b : Bytes). b .number) (sym a) ∙ e))) (λ h. h)
+      ∙ ⊎-elim (λ (h : run (readP base m 0 r) (take k x) .number ≡ 2). let f = ap (λ (b : Bytes). b .number) (sym a) ∙ e in absurd (omega arith)) (λ h. h)
       (honest-kept (read-honest base m 0 r) x k)

@@ -9,7 +9,7 @@ use mathlib.Core.List.{List, [], _∷_}
 use lib.Dec.{ltb, eqb}
 use lib.ListN.{length, take}
 use borrow.Author.Tests.{le-ltb, eq-eqb}
-use Rattle.le.specs.Choice.{pick}
+use Rattle.base.specs.Choice.{pick}
 use Rattle.prog.specs.Prog.{Prog, done, _>>=_, also, mapP, aside, run}
 use Rattle.prog.specs.Run.{run-done, run-also}
 use Rattle.prog.specs.Cut.{Cut, OrEnded}

@@ -11,7 +11,8 @@ use mathlib.Core.List.{List}
 use lib.Dec.{ltb, eqb}
 use lib.ListN.{length, take, length-take}
 use borrow.Author.Tests.{ltb-false, le-ltb}
-use Rattle.le.specs.Choice.{pick}
+use Rattle.base.specs.Cases.{both-false}
+use Rattle.base.specs.Choice.{pick}
 use Rattle.prog.specs.Prog.{run, reach}
 use Rattle.prog.specs.Cut.{past, below, shown}
 use Rattle.header.specs.Header.{baseAfter}
@@ -55,13 +56,9 @@ pub record Demand3 (s : Settings) (sets roms : List ℕ) (x : List ℕ) (k : ℕ
 
 -- ---- the proof
 
-or-false : (a b : Bool) → (a || b) ≡ false → (a ≡ false) × (b ≡ false)
-or-false true b e = let z : _≡_ {A = ℕ} 0 1 = cc in absurd (omega arith)
-or-false false b e = (refl, e)
-
 window-cut : (s : Settings) (x : List ℕ) (k : ℕ) → beyondWindow s x ≡ false → beyondWindow s (take k x) ≡ false
 window-cut s x k e =
-    let b = or-false (ltb 4294967296 (s .«flash_base» + length x)) (ltb 4294967296 (s .«cs0_base» + length x)) e in
+    let b = both-false (ltb 4294967296 (s .«flash_base» + length x)) (ltb 4294967296 (s .«cs0_base» + length x)) e in
     let f = ltb-false 4294967296 (s .«flash_base» + length x) (b .0) in
     let g = ltb-false 4294967296 (s .«cs0_base» + length x) (b .1) in
     let l = length-take k x in

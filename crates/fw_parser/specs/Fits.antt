@@ -9,11 +9,11 @@ use lib.Dec.{eqb}
 use lib.ListN.{length, take, drop, length-append, length-drop}
 use lib.Seq.{take-append-seam, drop-append-seam}
 use borrow.Author.Tests.{ltb-false, eqb-false}
-use Rattle.le.specs.Choice.{pick}
+use Rattle.base.specs.Cases.{cases, clash}
+use Rattle.base.specs.Choice.{pick}
 use Rattle.prog.specs.Prog.{run}
 use Rattle.prog.specs.Run.{run-done, run-bind, run-map}
 use Rattle.text.specs.declared.Text.{Text}
-use Rattle.text.specs.Nul.{by-test}
 use Rattle.header.specs.declared.SdrrInfoHeader.{SdrrInfoHeader}
 use Rattle.header.specs.declared.HeaderAnswer.{HeaderAnswer}
 use Rattle.header.specs.Header.{headerP, baseAfter}
@@ -43,7 +43,7 @@ module _ (n m : ℕ) where
   module _ (s : Settings) (x : List ℕ) where
     after-fits : (a : HeaderAnswer) → Fits n m (run (afterHeader s n m a) x)
     after-fits a =
-        by-test (eqb (a .number) 0)
+        cases (eqb (a .number) 0)
         (λ e. rw (e, run-map x (λ (t : Row). verdict n m (a .header) (itemsOf t)) (rowP (baseAfter (s .«flash_base») (s .«cs0_base») (a .header .fields .«stm_line»)) (a .header)))
         (verdict-fits (a .header) _))
         (λ e. rw (e, run-done x (refused (a .number))) (eqb-false (a .number) 0 e))
@@ -68,7 +68,7 @@ module _ (n m : ℕ) where
     opened-run r ss names e = go (beyondWindow s x) e
       where
         go : (b : Bool) → pick b (refused 1) (run (openP s n m) x) ≡ opened r ss names → run (openP s n m) x ≡ opened r ss names
-        go true f = let z : _≡_ {A = ℕ} 0 1 = cc in absurd (omega arith)
+        go true f = clash (cc)
         go false f = f
 
 -- ---- words at the front of the lent ones

@@ -7,7 +7,8 @@ use mathlib.Core.Bool.{Bool, true, false}
 use mathlib.Core.List.{List, [], _∷_}
 use lib.Dec.{eqb}
 use lib.ListN.{getD}
-use Rattle.le.specs.Choice.{pick}
+use Rattle.base.specs.Cases.{clash}
+use Rattle.base.specs.Choice.{pick}
 use Rattle.prog.specs.Prog.{Prog, done, _>>=_, also, mapP, run}
 use Rattle.prog.specs.Run.{run-done, run-bind, run-map, run-also}
 use Rattle.text.specs.declared.Text.{Text}
@@ -109,8 +110,8 @@ let-through n m h i r ss names e = go (shortSets (setsOf (i .sets .walk)) n) (sh
   where
     go : (a b : Bool) → pick a (refused 44) (pick b (refused 45) (opened (reportOf h i) (setsOf (i .sets .walk)) (i .names))) ≡ opened r ss names
         → (reportOf h i ≡ r) × (setsOf (i .sets .walk) ≡ ss) × (i .names ≡ names)
-    go true b f = let z : _≡_ {A = ℕ} 0 1 = cc in absurd (omega arith)
-    go false true f = let z : _≡_ {A = ℕ} 0 1 = cc in absurd (omega arith)
+    go true b f = clash (cc)
+    go false true f = clash (cc)
     go false false f = ((cc), (cc), (cc))
 
 -- the items of an opened image
@@ -150,7 +151,7 @@ module _ (s : Settings) (x : List ℕ) where
           → run (pick b (mapP (λ t. verdict n m (header .header) (itemsOf t)) (rowP base (header .header))) (done (refused (header .number)))) x ≡ opened r ss names
           → (eqb (header .number) 0 ≡ true) × (verdict n m (header .header) (itemsOf (run (rowP base (header .header)) x)) ≡ opened r ss names)
       go true h f = (h, sym (run-map x (λ t. verdict n m (header .header) (itemsOf t)) (rowP base (header .header))) ∙ f)
-      go false h f = let z : _≡_ {A = ℕ} 0 1 = cc in absurd (omega arith)
+      go false h f = clash (cc)
 
   pub items-of : (n m : ℕ) (r : SdrrInfo) (ss : List RomSet) (names : List Text) → run (openP s n m) x ≡ opened r ss names → ItemsOf s x r ss names
   unfolding reportOf

@@ -8,12 +8,12 @@ use mathlib.Core.List.{List, []}
 use lib.Dec.{ltb}
 use lib.ListN.{length}
 use borrow.Author.Tests.{lt-ltb, le-ltb, ltb-true, ltb-false, ne-eqb, eq-eqb}
-use Rattle.le.specs.Choice.{pick}
+use Rattle.base.specs.Cases.{cases, clash}
+use Rattle.base.specs.Choice.{pick}
 use Rattle.prog.specs.Prog.{done, run}
 use Rattle.prog.specs.Run.{run-done, run-bind, run-map, run-also}
 use Rattle.text.specs.declared.Text.{Text}
 use Rattle.text.specs.Text.{textP}
-use Rattle.text.specs.Nul.{by-test}
 use Rattle.header.specs.declared.SdrrInfoFields.{SdrrInfoFields}
 use Rattle.header.specs.declared.SdrrInfoHeader.{SdrrInfoHeader}
 use Rattle.header.specs.declared.HeaderAnswer.{HeaderAnswer}
@@ -41,7 +41,7 @@ use Rattle.fw_parser.specs.Parts.{walkOf, isShort, itemOf, reportWith}
 -- a test without the sum
 past-window : (base n : ℕ) → base ≤ 4294967296 → ltb (4294967296 - base) n ≡ ltb 4294967296 (base + n)
 past-window base n h =
-    by-test (ltb (4294967296 - base) n)
+    cases (ltb (4294967296 - base) n)
     (λ e. e ∙ sym (lt-ltb 4294967296 (base + n) (let f = ltb-true (4294967296 - base) n e in omega arith)))
     (λ e. e ∙ sym (le-ltb 4294967296 (base + n) (let f = ltb-false (4294967296 - base) n e in omega arith)))
 
@@ -84,7 +84,7 @@ module _ (x : List ℕ) (base : ℕ) (f : SdrrInfoFields) (s : SetsSource) where
 
   left-numbered : Numbered (walkOf base f s x)
   left-numbered =
-      by-test (s .ended)
+      cases (s .ended)
       (λ e. subst Numbered (sym (walk-ended e)) ((λ (z : _≡_ {A = ℕ} 2 0). omega arith), omega arith))
       (λ e. subst Numbered (sym (walk-made e)) (walk-numbered x base f (s .«rom_set_count») (s .«rom_sets_ptr»)))
 
@@ -94,7 +94,7 @@ not-short : (k : ℕ) → k ≤ 43 → isShort k ≡ false
 not-short k h = rw (ne-eqb k 44 (λ z. omega arith), ne-eqb k 45 (λ z. omega arith)) refl
 
 both : {A : Type 0} → true ≡ false → A
-both e = let z : _≡_ {A = ℕ} 0 1 = cc in absurd (omega arith)
+both e = clash (cc)
 
 -- an opening by the walk w, which goes on to o: what the walk's number v says of it and of the rows that the walk leaves
 module _ (o : Part (List RomSet) → Opened) (names : List Text) (ls lr : List ℕ) where

@@ -51,7 +51,7 @@ pub struct Opening {
 fn beyond_window(image: &[u8], settings: Settings) -> bool
     ensures { λ r. ⌜ r ≡ beyondWindow settings (now (image .entry)) ⌝ }
 {
-    le::either(
+    base::either(
         4294967296 - (settings.flash_base as usize) < image.len(),
         4294967296 - (settings.cs0_base as usize) < image.len(),
     )
@@ -133,7 +133,7 @@ fn walk_sets(
 fn is_short(number: u8) -> bool
     ensures { λ r. ⌜ r ≡ isShort number ⌝ }
 {
-    le::either(number == 44, number == 45)
+    base::either(number == 44, number == 45)
 }
 
 // The report with that number of the walk.

@@ -50,7 +50,7 @@ pub struct HeaderAnswer {
 pub fn filenames_enabled(fields: SdrrInfoFields) -> bool
     ensures { λ r. ⌜ r ≡ hasFilenames fields ⌝ }
 {
-    le::either(
+    base::either(
         version::from_0_5_1(fields.version),
         fields.boot_logging_enabled,
     )

@@ -8,7 +8,8 @@ use mathlib.Core.List.{List, [], _∷_}
 use lib.Dec.{ltb, eqb}
 use lib.ListN.{length}
 use borrow.Author.Tests.{ltb-false, eqb-true, eq-eqb}
-use Rattle.le.specs.Choice.{pick}
+use Rattle.base.specs.Cases.{clash}
+use Rattle.base.specs.Choice.{pick}
 use Rattle.prog.specs.Prog.{run}
 use Rattle.prog.specs.Run.{run-map}
 use Rattle.header.specs.Header.{baseAfter}
@@ -61,7 +62,7 @@ module _ (flashBase cs0Base : ℕ) (l : Lent) (x : List ℕ) where
           → pick (not c) b (pick (not (eqb (pick d 82 0) 0)) (noBytes (pick d 82 0)) (shownOf l r b)) .number ≡ 0 → count + lengthOf r ≤ 4294967295
       go c false g h f = ltb-false 4294967295 (count + lengthOf r) h
       go true true g h f = let z : _≡_ {A = ℕ} 82 0 = f in absurd (omega arith)
-      go false true g h f = let y : eqb (b .number) 0 ≡ true = eq-eqb (b .number) 0 f in let z : _≡_ {A = ℕ} 0 1 = cc in absurd (omega arith)
+      go false true g h f = let y : eqb (b .number) 0 ≡ true = eq-eqb (b .number) 0 f in clash (cc)
 
   pub count-fits : (count : ℕ) (r : RomRead) → count ≤ 4294967295 → romRead flashBase cs0Base l count r x .count ≤ 4294967295
   unfolding romRead readP

@@ -4,7 +4,7 @@ use mathlib.Core.Bool.{Bool, not, _&&_, _||_}
 use mathlib.Core.List.{List}
 use lib.Dec.{ltb, leb, eqb}
 use lib.ListN.{length, getD}
-use Rattle.le.specs.Choice.{pick}
+use Rattle.base.specs.Choice.{pick}
 use Rattle.types.specs.declared.McuLine.{McuLine}
 use Rattle.types.specs.declared.SdrrCsSet.{SdrrCsSet}
 use Rattle.types.specs.declared.SdrrRomType.{SdrrRomType}

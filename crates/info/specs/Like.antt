@@ -9,7 +9,8 @@ use mathlib.Core.List.{List}
 use lib.Dec.{ltb, leb, eqb}
 use lib.ListN.{length, getD}
 use borrow.Author.Tests.{eqb-true, ne-eqb, eq-eqb, le-leb}
-use Rattle.le.specs.Choice.{pick}
+use Rattle.base.specs.Cases.{clash}
+use Rattle.base.specs.Choice.{pick}
 use Rattle.prog.specs.Prog.{Prog, done, run, mapP}
 use Rattle.prog.specs.Run.{run-done, run-map}
 use Rattle.prog.specs.Honest.{Honest, honest-done, honest-fetch, honest-pick, honest-map, honesty}
@@ -31,9 +32,6 @@ pub record Like (l m : Lent) : Type 0 where
 
 abbrev EndedBytes : Bytes → Type 0
 EndedBytes b = b .number ≡ 2
-
-clash : {n : ℕ} → n ≡ 2 → n ≡ 0 → ⊥
-clash e f = omega arith
 
 -- an accepted read took accepted bytes
 stored-accepted : (l : Lent) (count : ℕ) (r : RomRead) (b : Bytes) → finished l count r b .number ≡ 0 → b .number ≡ 0
@@ -59,7 +57,7 @@ module _ {l m : Lent} (like : Like l m) where
   mangle-pins : (address : ℕ) (levels : SdrrCsSet) → mangleAddress (l .pins) (l .served) (l .setWords) (l .romWords) address levels .number ≡ 0 → l .pins ≡ m .pins
   unfolding mangleAddress
   mangle-pins address levels e =
-      ⊎-elim (λ (h : l .pins .number ≡ 2). absurd (let z : _≡_ {A = ℕ} 70 0 = rw (ne-eqb (l .pins .number) 0 (λ (f : l .pins .number ≡ 0). clash h f)) at e in omega arith)) (λ h. h) (like .pins)
+      ⊎-elim (λ (h : l .pins .number ≡ 2). absurd (let z : _≡_ {A = ℕ} 70 0 = rw (ne-eqb (l .pins .number) 0 (λ (f : l .pins .number ≡ 0). omega arith)) at e in omega arith)) (λ h. h) (like .pins)
 
   mangle-like : (address : ℕ) (levels : SdrrCsSet) → mangleAddress (l .pins) (l .served) (l .setWords) (l .romWords) address levels .number ≡ 0 → mangleAddress (l .pins) (l .served) (l .setWords) (l .romWords) address levels ≡ mangleAddress (m .pins) (m .served) (m .setWords) (m .romWords) address levels
   unfolding mangleAddress
@@ -72,7 +70,7 @@ module _ {l m : Lent} (like : Like l m) where
   demangle-like : (b : ℕ) → demangleByte (l .pins) b .number ≡ 0 → demangleByte (l .pins) b ≡ demangleByte (m .pins) b
   unfolding demangleByte
   demangle-like b e =
-      ⊎-elim (λ (h : l .pins .number ≡ 2). absurd (let z : _≡_ {A = ℕ} 70 0 = rw (ne-eqb (l .pins .number) 0 (λ (f : l .pins .number ≡ 0). clash h f)) at e in omega arith))
+      ⊎-elim (λ (h : l .pins .number ≡ 2). absurd (let z : _≡_ {A = ℕ} 70 0 = rw (ne-eqb (l .pins .number) 0 (λ (f : l .pins .number ≡ 0). omega arith)) at e in omega arith))
       (λ (h : l .pins ≡ m .pins). rw h) (like .pins)
 
   data-like : (base set offset n : ℕ) → dataP base (l .served) (l .setWords) set offset n ≡ dataP base (m .served) (m .setWords) set offset n
@@ -96,7 +94,10 @@ module _ {l m : Lent} (like : Like l m) where
     where
       go : (c : Bool) → eqb (demangleByte (l .pins) (getD (b .bytes) 0 0) .number) 0 ≡ c → shownOf l (byte set a true) b ≡ shownOf m (byte set a true) b
       go true h = rw (demangle-like (getD (b .bytes) 0 0) (eqb-true _ 0 h))
-      go false h = absurd (let i : demangleByte (l .pins) (getD (b .bytes) 0 0) .number ≡ 0 = rw h at e in let z : eqb (demangleByte (l .pins) (getD (b .bytes) 0 0) .number) 0 ≡ true = eq-eqb _ 0 i in let y : _≡_ {A = ℕ} 0 1 = cc in omega arith)
+      go false h =
+          let i : demangleByte (l .pins) (getD (b .bytes) 0 0) .number ≡ 0 = rw h at e in
+          let z : eqb (demangleByte (l .pins) (getD (b .bytes) 0 0) .number) 0 ≡ true = eq-eqb _ 0 i in
+          clash (cc)
 
   finished-like : (count : ℕ) (r : RomRead) (b : Bytes) → finished l count r b .number ≡ 0 → finished l count r b ≡ finished m count r b
   unfolding finished
@@ -121,7 +122,7 @@ module _ {l m : Lent} (like : Like l m) where
 
 finished-ended : (l : Lent) (count : ℕ) (r : RomRead) (b : Bytes) → EndedBytes b → EndedBytes (finished l count r b)
 unfolding finished
-finished-ended l count r b e = rw (ne-eqb (b .number) 0 (λ (f : b .number ≡ 0). clash e f)) e
+finished-ended l count r b e = rw (ne-eqb (b .number) 0 (λ (f : b .number ≡ 0). omega arith)) e
 
 data-honest : (base : ℕ) (l : Lent) (set offset n : ℕ) → Honest EndedBytes (dataP base (l .served) (l .setWords) set offset n)
 unfolding dataP
@@ -147,7 +148,7 @@ stored-unserved base l (byte set a d) x e h = go (eqb (physical l a .number) 0) 
   where
     go : (b : Bool) → eqb (physical l a .number) 0 ≡ b → run (pick b (dataP base (l .served) (l .setWords) set (physical l a .value) 1) (done (noBytes (physical l a .number)))) x .number ≡ 0 → ⊥
     go true i j = let z = data-unserved base l set (physical l a .value) 1 x e in omega arith
-    go false i j = let z : eqb (physical l a .number) 0 ≡ true = eq-eqb _ 0 j in let y : _≡_ {A = ℕ} 0 1 = cc in omega arith
+    go false i j = let z : eqb (physical l a .number) 0 ≡ true = eq-eqb _ 0 j in clash (cc)
 
 pub read-unserved : (base : ℕ) (l : Lent) (count : ℕ) (r : RomRead) (x : List ℕ) → l .served ≡ 0 → run (readP base l count r) x .number ≡ 0 → ⊥
 unfolding readP

@@ -4,7 +4,7 @@ use mathlib.Core.Bool.{Bool, true, false, not, _||_}
 use mathlib.Core.List.{List, [], _∷_}
 use lib.Dec.{ltb, eqb}
 use lib.ListN.{length, getD}
-use Rattle.le.specs.Choice.{pick}
+use Rattle.base.specs.Choice.{pick}
 use Rattle.prog.specs.Prog.{Prog, done, fetch, mapP, run}
 use Rattle.header.specs.Header.{baseAfter}
 use Rattle.types.specs.declared.SdrrCsSet.{SdrrCsSet}

@@ -4,7 +4,7 @@ use mathlib.Core.Bool.{Bool, true, false, not, _&&_, _||_}
 use mathlib.Core.List.{List, [], _∷_}
 use lib.Dec.{ltb, leb, eqb}
 use lib.ListN.{length, drop}
-use Rattle.le.specs.Choice.{pick}
+use Rattle.base.specs.Choice.{pick}
 use Rattle.walk.specs.Rows.{romWidth}
 use Rattle.info.specs.declared.Valued.{Valued}
 use Rattle.info.specs.Lent.{hasSetRow, firstRom, romCount, sizeOf, serveOf, unvalued}

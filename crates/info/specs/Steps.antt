@@ -6,7 +6,7 @@ use mathlib.Core.Bool.{Bool, true, false, not, _&&_}
 use mathlib.Core.List.{List}
 use lib.Dec.{eqb}
 use borrow.Author.Tests.{eq-eqb, ne-eqb}
-use Rattle.le.specs.Choice.{pick}
+use Rattle.base.specs.Choice.{pick}
 use Rattle.types.specs.declared.SdrrCsSet.{SdrrCsSet}
 use Rattle.types.specs.Types.{romTypeOf}
 use Rattle.pins.specs.declared.SdrrPins.{SdrrPins}

@@ -40,7 +40,7 @@ fn lacks_first_rom(set_rows: &[u32], rom_rows: &[u32]) -> bool
 {
     let count = rows::set_word(set_rows, 0, 3);
     let first = rows::set_word(set_rows, 0, 2);
-    le::both(count != 0, rows::is_bad_rom_row(rom_rows, first))
+    base::both(count != 0, rows::is_bad_rom_row(rom_rows, first))
 }
 
 fn ungoverned_by(number: u8) -> GoverningSet

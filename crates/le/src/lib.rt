@@ -1,6 +1,5 @@
 // Numbers at an offset of a slice, little-endian, and the test for a magic. Every record reads its fields through these.
 ghost use mathlib.Core.Path.{_≡_};
-ghost use mathlib.Core.Bool.{_&&_, _||_};
 ghost use Prim.Native.Nat.{_+_, _*_};
 ghost use Rattle.le.specs.Le.{u8At, u16At, u32At, flagAt, startsWith};
 
@@ -67,18 +66,4 @@ pub fn starts_with(s: &[u8], m: &[u8]) -> bool
         i += 1;
     }
     true
-}
-
-// Both tests, without a branch in the caller.
-pub fn both(a: bool, b: bool) -> bool
-    ensures { λ r. ⌜ r ≡ (a && b) ⌝ }
-{
-    if a { b } else { false }
-}
-
-// One test or the other, without a branch in the caller.
-pub fn either(a: bool, b: bool) -> bool
-    ensures { λ r. ⌜ r ≡ (a || b) ⌝ }
-{
-    if a { true } else { b }
 }

@@ -11,7 +11,7 @@ use lib.Bits.{bitOr}
 use lib.ListN.{length, getD, take, drop, set, drop-of-length-le}
 use lib.Seq.{drop-cons, take-all, take-suc-set}
 use borrow.Author.Tests.{lt-ltb, le-ltb}
-use Rattle.le.specs.Choice.{pick}
+use Rattle.base.specs.Choice.{pick}
 use Rattle.mangle.specs.declared.Placed.{Placed}
 use Rattle.mangle.specs.Bits.{taken, gather}
 use Rattle.mangle.specs.Demangle.{allBelow}

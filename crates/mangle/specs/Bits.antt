@@ -1,7 +1,7 @@
 -- Document 01, "Mangling": bits of a number, and bits gathered through a list of pins.
 use Prim.Native.Nat.{ℕ, _+_, _*_, _/_, _%_, _^_}
 use mathlib.Core.List.{List, [], _∷_}
-use Rattle.le.specs.Choice.{pick}
+use Rattle.base.specs.Choice.{pick}
 use Rattle.mangle.specs.Rules.{isBit}
 
 -- bit i of x

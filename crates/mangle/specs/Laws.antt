@@ -12,7 +12,8 @@ use lib.Dec.{ltb, eqb}
 use lib.ListN.{length, getD, set, length-set}
 use lib.Pow.{shr-shr, pow-pos}
 use borrow.Author.Tests.{ltb-true, lt-ltb}
-use Rattle.le.specs.Choice.{pick}
+use Rattle.base.specs.Cases.{both-true}
+use Rattle.base.specs.Choice.{pick}
 use Rattle.types.specs.declared.SdrrRomType.{SdrrRomType}
 use Rattle.types.specs.declared.SdrrCsSet.{SdrrCsSet}
 use Rattle.pins.specs.declared.SdrrPins.{SdrrPins}
@@ -22,14 +23,6 @@ use Rattle.mangle.specs.BaseZero.{baseZero}
 use Rattle.mangle.specs.PinMap.{unmapped, withAddress, addressMap, withX, controlPins, withControl, withControls, mapNumber, wholeMap, mapBy, mapOf, pinMap}
 use Rattle.mangle.specs.Mangle.{levels, inputWord, place, mangleNumber, mangleBy, mangleOf, mangleCore}
 use Rattle.mangle.specs.Demangle.{allBelow, demangle}
-
-and-left : (a b : Bool) → (a && b) ≡ true → a ≡ true
-and-left true b e = refl
-and-left false b e = e
-
-and-right : (a b : Bool) → (a && b) ≡ true → b ≡ true
-and-right true b e = e
-and-right false b e = absurd (false≢true e)
 
 pub bit-lt : (x i : ℕ) → bitAt x i < 2
 unfolding bitAt
@@ -151,8 +144,8 @@ no-rom pins type address set = refl
 pub below-at : (n i : ℕ) (ps : List ℕ) → i < length ps → allBelow n ps ≡ true → getD ps i none < n
 unfolding allBelow
 below-at n i [] h e = absurd (not-suc-le-zero h)
-below-at n zero (p ∷ ps) h e = ltb-true p n (and-left (ltb p n) (allBelow n ps) e)
-below-at n (suc i) (p ∷ ps) h e = below-at n i ps (le-of-suc-le-suc h) (and-right (ltb p n) (allBelow n ps) e)
+below-at n zero (p ∷ ps) h e = ltb-true p n (both-true (ltb p n) (allBelow n ps) e .0)
+below-at n (suc i) (p ∷ ps) h e = below-at n i ps (le-of-suc-le-suc h) (both-true (ltb p n) (allBelow n ps) e .1)
 
 -- bit i of an accepted byte is the byte's bit at pin i
 pub demangled-bit : (pins : List ℕ) (byte i : ℕ) → i < length pins → demangle pins byte .number ≡ 0

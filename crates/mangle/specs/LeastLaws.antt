@@ -10,7 +10,7 @@ use lib.Dec.{ltb}
 use lib.ListN.{length, getD, drop, drop-of-length-le}
 use lib.Seq.{drop-cons}
 use borrow.Author.Tests.{ltb-true, ltb-false, lt-ltb, le-ltb}
-use Rattle.le.specs.Choice.{pick}
+use Rattle.base.specs.Choice.{pick}
 use Rattle.pins.specs.declared.SdrrPins.{SdrrPins}
 use Rattle.mangle.specs.BaseZero.{has24, controls, leastOf, leastPin}
 

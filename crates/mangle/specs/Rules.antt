@@ -3,7 +3,7 @@ use Prim.Native.Nat.{ℕ}
 use mathlib.Core.Bool.{Bool, true, false}
 use mathlib.Core.List.{List, [], _∷_}
 use lib.Dec.{ltb, leb, eqb}
-use Rattle.le.specs.Choice.{pick}
+use Rattle.base.specs.Choice.{pick}
 use Rattle.types.specs.Types.{romTypeNumber}
 use Rattle.types.specs.declared.SdrrRomType.{SdrrRomType}
 use Rattle.mangle.specs.declared.TypeRules.{TypeRules}

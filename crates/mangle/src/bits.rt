@@ -3,7 +3,7 @@ ghost use mathlib.Core.Path.{_≡_};
 ghost use Prim.Native.Nat.{_+_, _*_, _≤_, _<_, _^_};
 ghost use lib.Bits.{bitOr};
 ghost use lib.ListN.{length};
-ghost use Rattle.le.specs.Choice.{pick};
+ghost use Rattle.base.specs.Choice.{pick};
 ghost use Rattle.mangle.specs.Bits.{taken, gather};
 ghost use Rattle.mangle.specs.RaiseLaws.{raisedBy};
 

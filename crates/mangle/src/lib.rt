@@ -1,5 +1,5 @@
 // Mangling a logical address and demangling a byte (info.rs `mangle_address`, `demangle_byte`).
-pub mod base; // base-zero
+pub mod base_zero;
 pub mod rules; // the types
 pub mod bits; // bits of a word
 pub mod map; // the sixteen pins
@@ -111,8 +111,8 @@ pub fn mangle_core(
 ) -> Mangled
     ensures { λ r. ⌜ r ≡ mangleCore pins «rom_count» «rom_type» address «cs_set» ⌝ }
 {
-    let m = base::least_pin(pins);
-    let k = base::control_least(m, pins);
+    let m = base_zero::least_pin(pins);
+    let k = base_zero::control_least(m, pins);
     let addr = pins.addr;
     let word = input_word(rom_type, rom_count, levels(cs_set), address);
     let a = map::address_pins(m, addr, word);

@@ -2,18 +2,18 @@
 // the bit of an earlier one. A pin is lowered where it is used: address pins by m, the others by k.
 use super::Mangled;
 use super::Placed;
-use super::base::lower;
+use super::base_zero::lower;
 use super::bits::bit_of;
 use super::rules::control_bits;
 use super::rules::rules_of;
-use le::either;
+use base::either;
 use types::SdrrRomType;
 ghost use mathlib.Core.Path.{_≡_};
 ghost use mathlib.Core.Bool.{_&&_, _||_};
 ghost use mathlib.Core.List.{map};
 ghost use Prim.Native.Nat.{_+_, _*_, _-_, _^_, _≤_, _<_};
 ghost use lib.Bits.{bitAnd};
-ghost use Rattle.le.specs.Choice.{pick};
+ghost use Rattle.base.specs.Choice.{pick};
 ghost use Rattle.mangle.specs.BaseZero.{lowered};
 ghost use Rattle.mangle.specs.Rules.{isBit};
 ghost use Rattle.mangle.specs.PinMap.{off, controlOff};

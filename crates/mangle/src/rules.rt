@@ -3,7 +3,7 @@ use super::TypeRules;
 use types::SdrrRomType;
 ghost use mathlib.Core.Path.{_≡_};
 ghost use mathlib.Core.List.{[], _∷_, map};
-ghost use Rattle.le.specs.Choice.{pick};
+ghost use Rattle.base.specs.Choice.{pick};
 ghost use Rattle.mangle.specs.Mangle.{bitOf};
 ghost use Rattle.mangle.specs.Rules.{none, rules, unsupported, rulesOf, mask, controlBits, drives, is28C16};
 

@@ -4,7 +4,7 @@ use mathlib.Core.Bool.{Bool, not, _&&_}
 use mathlib.Core.List.{List, [], _∷_}
 use lib.Dec.{ltb, eqb}
 use lib.ListN.{length}
-use Rattle.le.specs.Choice.{pick}
+use Rattle.base.specs.Choice.{pick}
 use Rattle.le.specs.Le.{u8At, u32At, startsWith}
 use Rattle.prog.specs.Prog.{Prog, done, fetch}
 use Rattle.metadata.specs.declared.MetadataAnswer.{MetadataAnswer}

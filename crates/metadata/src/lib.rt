@@ -43,7 +43,7 @@ pub fn parse_metadata(data: &[u8]) -> MetadataAnswer
     }
     let rom_set_count = le::u8_at(data, 20);
     let rom_sets_ptr = le::u32_at(data, 24);
-    if le::both(0 < rom_set_count, rom_sets_ptr == 0) {
+    if base::both(0 < rom_set_count, rom_sets_ptr == 0) {
         return refuse(32);
     }
     MetadataAnswer {

@@ -2,7 +2,7 @@
 use Prim.Native.Nat.{ℕ}
 use mathlib.Core.List.{List, [], _∷_, _++_}
 use lib.Dec.{eqb}
-use Rattle.le.specs.Choice.{pick}
+use Rattle.base.specs.Choice.{pick}
 use Rattle.pins.specs.Pins.{eightZeros}
 use Rattle.mangle.specs.declared.Mangled.{Mangled}
 use Rattle.mangle.specs.declared.Demangled.{Demangled}

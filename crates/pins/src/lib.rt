@@ -5,7 +5,7 @@ ghost use mathlib.Core.List.{_++_};
 ghost use Prim.Native.Nat.{_+_, _≤_};
 ghost use lib.Dec.{eqb};
 ghost use lib.ListN.{length};
-ghost use Rattle.le.specs.Choice.{pick};
+ghost use Rattle.base.specs.Choice.{pick};
 ghost use Rattle.le.specs.Le.{u8At};
 ghost use Rattle.prog.specs.Prog.{run};
 ghost use Rattle.pins.specs.Pins.{eightAt, sixteenAt, eightZeros, fieldsOf, noPins, refused, unknownPort, pinsOf, pinsP};
@@ -176,11 +176,11 @@ fn unknown_port(s: &[u8]) -> bool
     requires { ⌜ 88 ≤ length (now s) ⌝ }
     ensures { λ r. ⌜ r ≡ unknownPort (now (s .entry)) ⌝ }
 {
-    le::either(
+    base::either(
         5 < s[0],
-        le::either(
+        base::either(
             5 < s[1],
-            le::either(5 < s[2], le::either(5 < s[3], 5 < s[4])),
+            base::either(5 < s[2], base::either(5 < s[3], 5 < s[4])),
         ),
     )
 }

@@ -6,6 +6,7 @@ use mathlib.Core.Logic.{inl, inr, ⊎-elim}
 use mathlib.Core.List.{List}
 use lib.ListN.{length, getD, take, drop, length-take, length-drop}
 use lib.Seq.{ext-getD}
+use Rattle.base.specs.Cases.{clash}
 use Rattle.prog.specs.Prog.{Answer, failed, got, Reads, Prog, done, read, unshown, answer, run, Span, taken, trace, triedShown, Takes}
 use Rattle.prog.specs.Read.{Inside, answer-inside, inside-or-failed, part-at}
 
@@ -62,7 +63,7 @@ same-answer x y base a n h j = ⊎-elim hit miss (inside-or-failed x base a n)
 -- what a read takes is taken, and stays so whatever stands before
 takes-here : (w : Answer) (bs : List ℕ) (s : Span) (t : List Span) (i : ℕ) → w ≡ got bs → s .offset ≤ i → i < s .offset + s .size → Takes (taken w s t) i
 unfolding Takes
-takes-here failed bs s t i e lo hi = let z : _≡_ {A = ℕ} 0 1 = cc in absurd (omega arith)
+takes-here failed bs s t i e lo hi = clash (cc)
 takes-here (got cs) bs s t i e lo hi = inl (lo, hi)
 
 takes-there : (w : Answer) (s : Span) (t : List Span) (i : ℕ) → Takes t i → Takes (taken w s t) i

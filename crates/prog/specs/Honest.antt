@@ -6,7 +6,9 @@ use mathlib.Core.Logic.{_⊎_, inl, inr, ⊎-elim}
 use mathlib.Core.Bool.{Bool}
 use mathlib.Core.List.{List}
 use lib.ListN.{take}
-use Rattle.prog.specs.Prog.{Answer, failed, got, Reads, Prog, done, read, unshown, _>>=_, also, mapP, pick, fetch, readsOf, aside, answer, run, Span, taken, trace, reach}
+use Rattle.base.specs.Cases.{clash}
+use Rattle.base.specs.Choice.{pick}
+use Rattle.prog.specs.Prog.{Answer, failed, got, Reads, Prog, done, read, unshown, _>>=_, also, mapP, fetch, readsOf, aside, answer, run, Span, taken, trace, reach}
 use Rattle.prog.specs.Run.{run-done, run-map}
 use Rattle.prog.specs.Cut.{Cut, OrEnded, answer-cut, below, shown}
 use Rattle.prog.specs.Parts.{cut-done, cut-pick, cut-unshown, cut-mono, cut-bind, cut-also}
@@ -44,7 +46,7 @@ module _ {A : Type 0} {E : A → Type 0} where
           → OrEnded E (run (f w) (take k x)) (run (f (answer x base a n)) x)
           × (E (run (f w) (take k x)) ⊎ (taken w s (trace (f w) (take k x)) ≡ taken (answer x base a n) s (trace (f (answer x base a n)) x)))
       go x k failed i = (inl (e (take k x)), inl (e (take k x)))
-      go x k (got bs) (inl i) = let z : _≡_ {A = ℕ} 0 1 = cc in absurd (omega arith)
+      go x k (got bs) (inl i) = clash (cc)
       go x k (got bs) (inr i) =
           rw (← i) (h bs .cut .values x k, ⊎-elim inl (λ (t : trace (f (got bs)) (take k x) ≡ trace (f (got bs)) x). inr (rw t)) (h bs .cut .takes x k))
 

@@ -5,7 +5,8 @@ use mathlib.Core.Logic.{_⊎_, inl, inr, ⊎-elim}
 use mathlib.Core.Bool.{Bool, true, false}
 use mathlib.Core.List.{List}
 use lib.ListN.{take}
-use Rattle.prog.specs.Prog.{Reads, Prog, done, unshown, _>>=_, also, mapP, pick, readsOf, aside, run, trace}
+use Rattle.base.specs.Choice.{pick}
+use Rattle.prog.specs.Prog.{Reads, Prog, done, unshown, _>>=_, also, mapP, readsOf, aside, run, trace}
 use Rattle.prog.specs.Run.{run-done, run-bind, trace-bind, run-also, trace-also}
 use Rattle.prog.specs.Cut.{Cut}
 

@@ -5,7 +5,7 @@ use mathlib.Core.Bool.{Bool, true, false, _&&_}
 use mathlib.Core.List.{List, [], _∷_}
 use lib.Dec.{leb}
 use lib.ListN.{length, take, drop}
-pub use Rattle.le.specs.Choice.{pick}
+pub use Rattle.base.specs.Choice.{pick}
 
 -- ---- programs
 

@@ -7,6 +7,7 @@ use mathlib.Core.Logic.{_⊎_, inl, inr, ⊎-elim}
 use mathlib.Core.Bool.{true, false}
 use mathlib.Core.List.{List, [], _∷_, _++_}
 use lib.ListN.{length, take, drop}
+use Rattle.base.specs.Cases.{clash}
 use Rattle.prog.specs.Prog.{Answer, failed, got, Prog, done, read, unshown, _>>=_, also, mapP, fetch, aside, canRead, answer, run, Span, taken, trace, Takes, endOf, reach}
 use Rattle.prog.specs.Read.{Inside, inside-or-failed}
 use Rattle.prog.specs.Run.{trace-done, trace-failed, trace-got, trace-bind, trace-map, trace-also, trace-aside}
@@ -44,7 +45,7 @@ end-last (s ∷ t) h = go (decLe (endOf t) (s .offset + s .size)) (end-last t (h
 -- what a successful read takes lies within the end, and so does what follows
 pub end-here : (w : Answer) (s : Span) (t : List Span) (bs : List ℕ) → w ≡ got bs → s .offset + s .size ≤ endOf (taken w s t)
 unfolding endOf
-end-here failed s t bs e = let z : _≡_ {A = ℕ} 0 1 = cc in absurd (omega arith)
+end-here failed s t bs e = clash (cc)
 end-here (got cs) s t bs e = omega arith
 
 pub end-there : (w : Answer) (s : Span) (t : List Span) → endOf t ≤ endOf (taken w s t)
@@ -55,7 +56,7 @@ end-there (got bs) s t = omega arith
 end-most : (w : Answer) (s : Span) (t : List Span) (m : ℕ) → (w ≡ failed) ⊎ (s .offset + s .size ≤ m) → endOf t ≤ m → endOf (taken w s t) ≤ m
 unfolding endOf
 end-most failed s t m h r = r
-end-most (got bs) s t m (inl e) r = let z : _≡_ {A = ℕ} 0 1 = cc in absurd (omega arith)
+end-most (got bs) s t m (inl e) r = clash (cc)
 end-most (got bs) s t m (inr h) r = omega arith
 
 end-append : (s t : List Span) → endOf (s ++ t) ≡ max (endOf s) (endOf t)

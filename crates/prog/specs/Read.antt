@@ -11,6 +11,7 @@ use lib.Dec.{leb}
 use lib.ListN.{length, getD, take, drop, length-take, length-drop}
 use lib.Seq.{take-all, getD-take, getD-drop}
 use borrow.Author.Tests.{le-leb, lt-leb}
+use Rattle.base.specs.Cases.{clash}
 use Rattle.prog.specs.Prog.{failed, got, canRead, answer}
 
 -- ---- when a read succeeds (01, "Window")
@@ -53,7 +54,7 @@ module _ (x : List ℕ) (base a n : ℕ) where
       go (no h) i j = inr (below-false (omega arith))
 
   pub true-inside : canRead x base a n ≡ true → Inside x base a n
-  true-inside e = ⊎-elim (λ i. i) (λ (f : canRead x base a n ≡ false). let z : _≡_ {A = ℕ} 0 1 = cc in absurd (omega arith)) inside?
+  true-inside e = ⊎-elim (λ i. i) (λ (f : canRead x base a n ≡ false). clash (cc)) inside?
 
   -- ---- what it gives
 

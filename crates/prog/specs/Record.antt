@@ -10,7 +10,8 @@ use lib.ListN.{length, getD, take, drop, length-take, List·getD-eq-default}
 use lib.Seq.{getD-take, length-take-le, take-all}
 use borrow.Author.Tests.{lt-ltb, le-ltb, ltb-true, ltb-false}
 use Rattle.le.specs.Le.{startsWith}
-use Rattle.prog.specs.Prog.{Prog, done, fetch, pick, canRead, run}
+use Rattle.base.specs.Choice.{pick}
+use Rattle.prog.specs.Prog.{Prog, done, fetch, canRead, run}
 use Rattle.prog.specs.Read.{onward}
 use Rattle.prog.specs.Run.{run-done, run-got, run-failed}
 

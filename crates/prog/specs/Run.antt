@@ -5,7 +5,8 @@ use mathlib.Core.Path.{_≡_, refl, ap, _∙_}
 use mathlib.Core.Bool.{Bool, true, false}
 use mathlib.Core.List.{List, [], _∷_, _++_, append-nil}
 use lib.ListN.{take, drop}
-use Rattle.prog.specs.Prog.{Answer, failed, got, Reads, noMore, look, Prog, done, read, unshown, _>>=_, also, mapP, pick, orElse, fetch, andThen, readsOf, aside, canRead, answer, run, Span, taken, trace, looked, tried, triedShown}
+use Rattle.base.specs.Choice.{pick}
+use Rattle.prog.specs.Prog.{Answer, failed, got, Reads, noMore, look, Prog, done, read, unshown, _>>=_, also, mapP, orElse, fetch, andThen, readsOf, aside, canRead, answer, run, Span, taken, trace, looked, tried, triedShown}
 use Rattle.prog.specs.Read.{Inside, inside-true, answer-true, answer-false}
 
 -- ---- a program that only gives its answer; a test
@@ -26,11 +27,6 @@ module _ {A : Type 0} (x : List ℕ) where
   pub shown-done : (a : A) → triedShown (done a) x ≡ 0
   unfolding triedShown
   shown-done a = refl
-
--- `run`, `trace` and the counts go through a test
-pub pick-apply : {A B : Type 0} (f : A → B) (b : Bool) (p q : A) → f (pick b p q) ≡ pick b (f p) (f q)
-pick-apply f true p q = refl
-pick-apply f false p q = refl
 
 -- ---- a read, by whether it succeeds
 

@@ -4,7 +4,7 @@ use mathlib.Core.Bool.{Bool, not, _||_}
 use mathlib.Core.List.{List}
 use lib.Dec.{ltb, eqb}
 use lib.ListN.{getD}
-use Rattle.le.specs.Choice.{pick}
+use Rattle.base.specs.Choice.{pick}
 use Rattle.prog.specs.Prog.{canRead}
 use Rattle.pins.specs.declared.PinsItem.{PinsItem}
 use Rattle.mangle.specs.declared.Mangled.{Mangled}

@@ -10,7 +10,7 @@ use mathlib.Core.List.{List, [], _∷_}
 use lib.ListN.{length, getD, take, drop, length-drop}
 use lib.Seq.{length-take-le}
 use borrow.Author.Tests.{ne-eqb}
-use Rattle.text.specs.Nul.{by-test}
+use Rattle.base.specs.Cases.{cases}
 use Rattle.header.specs.Header.{baseAfter}
 use Rattle.info.specs.declared.SdrrAddress.{SdrrAddress}
 use Rattle.info.specs.Lent.{Lent, dataPointer, sizeOf, demangleByte}
@@ -70,7 +70,7 @@ module _ (flashBase cs0Base : ℕ) (l : Lent) (x : List ℕ) where
     pub accepted-byte : byteOf (romRead flashBase cs0Base l count (byte set a false) x) .number ≡ 0
         → byteOf (romRead flashBase cs0Base l count (byte set a false) x) .byte ≡ getD x (place set (physical l a .value)) 0
     accepted-byte e =
-        by-test (beyond flashBase cs0Base (length x))
+        cases (beyond flashBase cs0Base (length x))
         (λ h. let z : _≡_ {A = ℕ} 1 0 = rw (read-beyond flashBase cs0Base l count x (byte set a false) h) at e in absurd (omega arith))
         (λ h.
         let base = baseAfter flashBase cs0Base (l .line) in

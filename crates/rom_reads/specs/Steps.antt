@@ -9,12 +9,12 @@ use mathlib.Core.List.{List, []}
 use lib.Dec.{ltb, eqb}
 use lib.ListN.{length, getD, take, drop}
 use borrow.Author.Tests.{ltb-true, ltb-false, lt-ltb, le-ltb, eqb-true, eqb-false, eq-eqb, ne-eqb}
-use Rattle.le.specs.Choice.{pick}
+use Rattle.base.specs.Cases.{cases}
+use Rattle.base.specs.Choice.{pick}
 use Rattle.prog.specs.Prog.{done, fetch, canRead, run}
 use Rattle.prog.specs.Read.{Inside, true-inside, part-at}
 use Rattle.prog.specs.Run.{run-done, run-failed, run-got, run-map}
 use Rattle.header.specs.Header.{baseAfter}
-use Rattle.text.specs.Nul.{by-test}
 use Rattle.pins.specs.declared.PinsItem.{PinsItem}
 use Rattle.mangle.specs.declared.Mangled.{Mangled}
 use Rattle.info.specs.declared.SdrrAddress.{SdrrAddress}
@@ -30,7 +30,7 @@ use Rattle.rom_reads.specs.Found.{beyond, setData, notFound, foundOf, no
 
 past-top : (base n : ℕ) → base ≤ 4294967296 → ltb (4294967296 - base) n ≡ ltb 4294967296 (base + n)
 past-top base n h =
-    by-test (ltb 4294967296 (base + n))
+    cases (ltb 4294967296 (base + n))
     (λ e. let i : 4294967296 - base < n = omega (arith, ltb-true 4294967296 (base + n) e) in lt-ltb (4294967296 - base) n i ∙ sym e)
     (λ e. let i : n ≤ 4294967296 - base = omega (arith, ltb-false 4294967296 (base + n) e) in le-ltb (4294967296 - base) n i ∙ sym e)
 
@@ -82,12 +82,12 @@ module _ (x : List ℕ) (base : ℕ) (d : SetData) (offset n : ℕ) where
     where
       go : foundOf x base d offset n .number ≡ 0 → Stands (foundOf x base d offset n)
       go e =
-          by-test (eqb (d .number) 0)
+          cases (eqb (d .number) 0)
           (λ h.
-          by-test (ltb (d .size) (offset + n))
+          cases (ltb (d .size) (offset + n))
           (λ i. let y : _≡_ {A = ℕ} 81 0 = rw (h, i) at e in absurd (omega arith))
           (λ i.
-          by-test (canRead x base (d .pointer + offset) n)
+          cases (canRead x base (d .pointer + offset) n)
           (λ j. rw (h, i, j) (record { in-set = ltb-false (d .size) (offset + n) i; readable = true-inside x base (d .pointer + offset) n j; starts = refl }))
           (λ j. let y : _≡_ {A = ℕ} 2 0 = rw (h, i, j) at e in absurd (omega arith))))
           (λ h. absurd (eqb-false (d .number) 0 h (rw h at e)))
@@ -110,12 +110,12 @@ data-found x base served sets set offset n = go (setNumber served sets set) (ltb
         → run (pick (not (eqb k 0)) (done (noBytes k)) (pick b (done (noBytes 81)) (fetch base a n (noBytes 2) λ bs. done (record { number = 0; bytes = bs })))) x
         ≡ bytesAt x n (pick (not (eqb k 0)) (notFound k) (pick b (notFound 81) (pick (canRead x base a n) (record { number = 0; at = a - base }) (notFound 2))))
     go k b a =
-        by-test (eqb k 0)
+        cases (eqb k 0)
         (λ h. rw h
-        (by-test b
+        (cases b
         (λ i. rw i (run-done x (noBytes 81)))
         (λ i. rw i
-        (by-test (canRead x base a n)
+        (cases (canRead x base a n)
         (λ j. rw j (run-got x base a n (noBytes 2) _ j ∙ run-done x _))
         (λ j. rw j (run-failed x base a n (noBytes 2) _ j))))))
         (λ h. rw (h, h) (run-done x (noBytes k)))
@@ -168,13 +168,13 @@ module _ (flashBase cs0Base : ℕ) (l : Lent) (count : ℕ) (x : List ℕ) where
       ≡ record { number = 0; bytes = take n (drop (foundOf x (baseAfter flashBase cs0Base (l .line)) (setData (l .served) (l .setWords) set) offset n .at) x); count = count + n })
   data-accepted set offset n e =
       let f = foundOf x (baseAfter flashBase cs0Base (l .line)) (setData (l .served) (l .setWords) set) offset n in
-      by-test (beyond flashBase cs0Base (length x))
+      cases (beyond flashBase cs0Base (length x))
       (λ h. let z : _≡_ {A = ℕ} 1 0 = ap (λ (r : Reply). r .number) (sym (read-beyond (range set offset n) h)) ∙ e in absurd (omega arith))
       (λ h.
-      by-test (eqb (f .number) 0)
+      cases (eqb (f .number) 0)
       (λ i.
       let there = eqb-true (f .number) 0 i in
-      by-test (ltb 4294967295 (count + n))
+      cases (ltb 4294967295 (count + n))
       (λ j. let z : _≡_ {A = ℕ} 82 0 = ap (λ (r : Reply). r .number) (sym (data-82 set offset n h _ refl _ refl f refl there (ltb-true 4294967295 (count + n) j))) ∙ e in absurd (omega arith))
       (λ j. (there, data-read set offset n h _ refl _ refl f refl there (ltb-false 4294967295 (count + n) j))))
       (λ i. let none = eqb-false (f .number) 0 i in absurd (none (ap (λ (r : Reply). r .number) (sym (data-refused set offset n h _ refl _ refl f refl none)) ∙ e))))
@@ -204,11 +204,11 @@ module _ (x : List ℕ) (base : ℕ) (d : SetData) (m : Mangled) (count : ℕ) w
   unfolding storedByte
   stored-at e =
       let f = foundOf x base d (m .value) 1 in
-      by-test (eqb (m .number) 0)
+      cases (eqb (m .number) 0)
       (λ h.
-      by-test (eqb (f .number) 0)
+      cases (eqb (f .number) 0)
       (λ i.
-      by-test (ltb 4294967295 (count + 1)) (λ j. let y : _≡_ {A = ℕ} 82 0 = rw (h, i, j) at e in absurd (omega arith))
+      cases (ltb 4294967295 (count + 1)) (λ j. let y : _≡_ {A = ℕ} 82 0 = rw (h, i, j) at e in absurd (omega arith))
       (λ j. rw (h, i, j) (ap (λ (k : ℕ). getD x k 0) (found-stands x base d (m .value) 1 f refl (eqb-true (f .number) 0 i) .starts))))
       (λ i. absurd (eqb-false (f .number) 0 i (rw (h, i) at e))))
       (λ h. absurd (eqb-false (m .number) 0 h (rw h at e)))
@@ -223,31 +223,31 @@ module _ (l : Lent) (count set : ℕ) (a : SdrrAddress) (b : Bytes) where
   finish-raw : byteOf (replyOf count (byte set a false) (finished l count (byte set a false) b)) ≡ rawOf count b
   unfolding finished countNumber shownByte
   finish-raw =
-      by-test (eqb (b .number) 0)
-      (λ h. by-test (ltb 4294967295 (count + 1)) (λ i. simp (h, i)) (λ i. simp (h, i)))
+      cases (eqb (b .number) 0)
+      (λ h. cases (ltb 4294967295 (count + 1)) (λ i. simp (h, i)) (λ i. simp (h, i)))
       (λ h. simp h)
 
   finish-shown : byteOf (replyOf count (byte set a true) (finished l count (byte set a true) b)) ≡ shownFrom (l .pins) (rawOf count b) count
   unfolding finished countNumber shownByte shownFrom
   finish-shown =
-      by-test (eqb (b .number) 0)
+      cases (eqb (b .number) 0)
       (λ h.
-      by-test (ltb 4294967295 (count + 1)) (λ i. simp (h, i))
-      (λ i. by-test (eqb (demangleByte (l .pins) (getD (b .bytes) 0 0) .number) 0) (λ j. simp (h, i, j)) (λ j. simp (h, i, j))))
+      cases (ltb 4294967295 (count + 1)) (λ i. simp (h, i))
+      (λ i. cases (eqb (demangleByte (l .pins) (getD (b .bytes) 0 0) .number) 0) (λ j. simp (h, i, j)) (λ j. simp (h, i, j))))
       (λ h. simp h)
 
 -- the byte at a mangled address
 stored-run : (x : List ℕ) (base : ℕ) (l : Lent) (set : ℕ) (m : Mangled) (count : ℕ) → rawOf count (run (byteP base l set m) x) ≡ storedByte x base (setData (l .served) (l .setWords) set) m count
 unfolding storedByte
 stored-run x base l set m count =
-    by-test (eqb (m .number) 0)
+    cases (eqb (m .number) 0)
     (λ h. rw (h, data-found x base (l .served) (l .setWords) set (m .value) 1) (go (foundOf x base (setData (l .served) (l .setWords) set) (m .value) 1)))
     (λ h. rw (h, run-done x (noBytes (m .number)), h))
   where
     go : (f : Found) → rawOf count (bytesAt x 1 f)
         ≡ pick (not (eqb (f .number) 0)) (noByte (f .number) count)
         (pick (ltb 4294967295 (count + 1)) (noByte 82 count) (record { number = 0; byte = getD x (f .at) 0; count = count + 1 }))
-    go f = by-test (eqb (f .number) 0) (λ h. rw h (rw (part-at (f .at) 1 x 0 (omega arith), add-zero (f .at)))) (λ h. rw (h, h))
+    go f = cases (eqb (f .number) 0) (λ h. rw h (rw (part-at (f .at) 1 x 0 (omega arith), add-zero (f .at)))) (λ h. rw (h, h))
 
 pub by-address : (l : Lent) (a : SdrrAddress) → physicalBy (l .pins) (l .served) (l .setWords) (l .romWords) a ≡ physical l a
 by-address l (SdrrAddress.Raw offset) = refl
@@ -269,7 +269,7 @@ module _ (flashBase cs0Base : ℕ) (l : Lent) (count : ℕ) (x : List ℕ) (set 
   byte-shown : byteOf (romRead flashBase cs0Base l count (byte set a true) x) ≡ shownFrom (l .pins) (byteOf (romRead flashBase cs0Base l count (byte set a false) x)) count
   unfolding storedP shownFrom
   byte-shown =
-      by-test (beyond flashBase cs0Base (length x))
+      cases (beyond flashBase cs0Base (length x))
       (λ h. rw (read-beyond flashBase cs0Base l count x (byte set a true) h, read-beyond flashBase cs0Base l count x (byte set a false) h))
       (λ h.
       ap byteOf (read-within flashBase cs0Base l count x (byte set a true) h)
@@ -302,6 +302,6 @@ module _ (pins : PinsItem) (raw : ByteRead) (count : ℕ) where
   unfolding shownFrom
   shown-value e =
       let v = demangleByte pins (raw .byte) in
-      by-test (eqb (raw .number) 0)
-      (λ h. by-test (eqb (v .number) 0) (λ i. rw (h, i)) (λ i. absurd (eqb-false (v .number) 0 i (rw (h, i) at e))))
+      cases (eqb (raw .number) 0)
+      (λ h. cases (eqb (v .number) 0) (λ i. rw (h, i)) (λ i. absurd (eqb-false (v .number) 0 i (rw (h, i) at e))))
       (λ h. absurd (eqb-false (raw .number) 0 h (rw h at e)))

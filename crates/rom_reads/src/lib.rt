@@ -89,7 +89,7 @@ fn set_data(served: u32, set_rows: &[u32], set: u32) -> SetData
 fn beyond_window(flash_base: u32, cs0_base: u32, length: usize) -> bool
     ensures { λ r. ⌜ r ≡ beyond «flash_base» «cs0_base» length ⌝ }
 {
-    le::either(
+    base::either(
         4294967296 - (flash_base as usize) < length,
         4294967296 - (cs0_base as usize) < length,
     )

@@ -61,8 +61,8 @@ fn rom_name(image: &[u8], base: u32, filenames: bool, s: &[u8]) -> Text
     ensures { λ r. ⌜ r ≡ run (nameP base (romOf base filenames (now (s .entry)) .name)) (now (image .entry)) ⌝ }
 {
     let ptr = le::u32_at(s, 4);
-    let away = le::either(ptr < base, ptr == 4294967295);
-    if le::both(filenames, !away) {
+    let away = base::either(ptr < base, ptr == 4294967295);
+    if base::both(filenames, !away) {
         return text::read_string_at_ptr(image, base, ptr);
     }
     Text {

@@ -43,7 +43,7 @@ fn type_word(rom_rows: &[u32], row: u32) -> u32
 pub fn is_bad_rom_row(rom_rows: &[u32], row: u32) -> bool
     ensures { λ r. ⌜ r ≡ badRomRow (now («rom_rows» .entry)) row ⌝ }
 {
-    le::either(!has_rom_row(rom_rows, row), 33 < type_word(rom_rows, row))
+    base::either(!has_rom_row(rom_rows, row), 33 < type_word(rom_rows, row))
 }
 
 pub fn rom_type(rom_rows: &[u32], row: u32) -> SdrrRomType

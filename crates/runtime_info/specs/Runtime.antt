@@ -4,7 +4,7 @@ use mathlib.Core.Bool.{Bool, not, _&&_, _||_}
 use mathlib.Core.List.{List, [], _∷_}
 use lib.Dec.{ltb, leb, eqb}
 use lib.ListN.{length}
-use Rattle.le.specs.Choice.{pick}
+use Rattle.base.specs.Choice.{pick}
 use Rattle.le.specs.Le.{u8At, u16At, u32At, flagAt, startsWith}
 use Rattle.runtime_info.specs.declared.SdrrRuntimeInfoHeader.{SdrrRuntimeInfoHeader}
 use Rattle.runtime_info.specs.declared.RuntimeHeader.{RuntimeHeader}

@@ -114,13 +114,13 @@ pub fn parse_and_validate_runtime_info(data: &[u8], ram_base: u32) -> RuntimeHea
 fn reaches_end(data: &[u8], end: usize) -> bool
     ensures { λ r. ⌜ r ≡ reaches (now («data» .entry)) end ⌝ }
 {
-    le::both(end <= le::u8_at(data, 4) as usize, end <= data.len())
+    base::both(end <= le::u8_at(data, 4) as usize, end <= data.len())
 }
 
 fn known_fire_vreg(b: u8) -> bool
     ensures { λ r. ⌜ r ≡ isVoltage b ⌝ }
 {
-    le::either(b <= 31, le::either(b == 254, b == 255))
+    base::either(b <= 31, base::either(b == 254, b == 255))
 }
 
 fn known_fire_serve_mode(b: u8) -> bool
@@ -132,7 +132,7 @@ fn known_fire_serve_mode(b: u8) -> bool
 fn known_bit_mode(b: u8) -> bool
     ensures { λ r. ⌜ r ≡ isBitMode b ⌝ }
 {
-    le::either(b == 1, b == 2)
+    base::either(b == 1, b == 2)
 }
 
 fn known_limp_mode(b: u8) -> bool
@@ -145,7 +145,7 @@ fn known_limp_mode(b: u8) -> bool
 fn has_v060(data: &[u8]) -> bool
     ensures { λ r. ⌜ r ≡ present060 (now («data» .entry)) ⌝ }
 {
-    le::both(reaches_end(data, 34), known_fire_vreg(le::u8_at(data, 27)))
+    base::both(reaches_end(data, 34), known_fire_vreg(le::u8_at(data, 27)))
 }
 
 fn group_v060(data: &[u8]) -> GroupV060
@@ -171,7 +171,7 @@ fn has_v062(data: &[u8]) -> bool
 {
     let serve = known_fire_serve_mode(le::u8_at(data, 34));
     let bits = known_bit_mode(le::u8_at(data, 35));
-    le::both(reaches_end(data, 36), le::both(serve, bits))
+    base::both(reaches_end(data, 36), base::both(serve, bits))
 }
 
 fn group_v062(data: &[u8]) -> GroupV062
@@ -203,7 +203,7 @@ fn group_v063(data: &[u8]) -> GroupV063
 fn has_v067(data: &[u8]) -> bool
     ensures { λ r. ⌜ r ≡ present067 (now («data» .entry)) ⌝ }
 {
-    le::both(reaches_end(data, 57), known_limp_mode(le::u8_at(data, 56)))
+    base::both(reaches_end(data, 57), known_limp_mode(le::u8_at(data, 56)))
 }
 
 fn group_v067(data: &[u8]) -> GroupV067

@@ -10,6 +10,7 @@ use lib.Dec.{ltb}
 use lib.ListN.{length, getD, drop, length-drop}
 use lib.Seq.{drop-cons, drop-drop}
 use borrow.Author.Tests.{ltb-false, lt-ltb, le-ltb, le-leb, lt-leb, eq-eqb, ne-eqb}
+use Rattle.base.specs.Cases.{clash}
 use Rattle.rows.specs.LentRows.{hasSetRow, sizeOf, firstRom, romCount, serveOf}
 use Rattle.info.specs.Lent.{unvalued}
 use Rattle.info.specs.Same.{typesIn, types, anyAbove33, badSet, compared, equal, sameSet}
@@ -85,8 +86,8 @@ module _ (sets roms : List ℕ) (i : ℕ) where
       go : (b s : Bool) → ltb (length roms) (7 * (firstRom sets i + romCount sets i)) ≡ s → (not b || (s || anyAbove33 (types sets roms i))) ≡ false
           → 7 * (firstRom sets i + romCount sets i) ≤ length roms
       go true false e f = ltb-false (length roms) (7 * (firstRom sets i + romCount sets i)) e
-      go true true e f = let z : _≡_ {A = ℕ} 0 1 = cc in absurd (omega arith)
-      go false s e f = let z : _≡_ {A = ℕ} 0 1 = cc in absurd (omega arith)
+      go true true e f = clash (cc)
+      go false s e f = clash (cc)
 
   pub enough-rows : badSet sets roms i ≡ false → (n first : ℕ) → n ≡ romCount sets i → first ≡ firstRom sets i → (words : List ℕ) → words ≡ drop (7 * first) roms → 7 * n ≤ length words
   enough-rows h n first v w words e = rw (e, length-drop (7 * first) roms) (go n refl)

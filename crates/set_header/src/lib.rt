@@ -28,7 +28,7 @@ pub fn info_ptr(image: &[u8], base: u32, entry: u64) -> u32
 fn pointed_at(counts: bool, ptr: u32) -> u32
     ensures { λ r. ⌜ r ≡ pointed counts ptr ⌝ }
 {
-    if le::both(counts, le::both(ptr != 0, ptr != 4294967295)) {
+    if base::both(counts, base::both(ptr != 0, ptr != 4294967295)) {
         return ptr;
     }
     0
@@ -50,7 +50,7 @@ pub fn firmware_overrides(s: &[u8]) -> u32
 pub fn set_stride(long: bool, s: &[u8]) -> u64
     ensures { λ r. ⌜ r ≡ strideOf long (now (s .entry)) ⌝ }
 {
-    if le::both(long, le::u8_at(s, 15) == 1) {
+    if base::both(long, le::u8_at(s, 15) == 1) {
         return 64;
     }
     16

@@ -10,18 +10,19 @@ use lib.Dec.{leb}
 use lib.ListN.{length, getD, take, drop, length-drop, drop-of-length-le}
 use lib.Seq.{drop-cons, length-take-le}
 use borrow.Author.Tests.{leb-true, leb-false, eq-eqb, ne-eqb}
+use Rattle.base.specs.Cases.{cases}
 use Rattle.prog.specs.Prog.{canRead, run}
 use Rattle.prog.specs.Read.{inside-true, true-inside, past-false, part}
 use Rattle.utf8.specs.Utf8.{isUtf8}
 use Rattle.text.specs.Text.{accepted, refused, partOf, hasNul, beforeNul, judged, textP}
-use Rattle.text.specs.Nul.{by-test, before-shorter, before-all}
+use Rattle.text.specs.Nul.{before-shorter, before-all}
 use Rattle.text.specs.Laws.{restP, chunkAfter, text-start, chunks-none, chunks-ended, chunks-found, chunks-next, part-inside}
 use Rattle.text.specs.declared.Text.{Text as Str}
 
 -- past the window's other tests, the bytes from the offset on decide
 pub enough-left : (x : List ℕ) (base a n : ℕ) → base ≤ a → a ≤ 4294967295 → a - base ≤ length x → leb n (length x - (a - base)) ≡ canRead x base a n
 enough-left x base a n from word upto =
-    by-test (leb n (length x - (a - base)))
+    cases (leb n (length x - (a - base)))
     (λ e. let l = leb-true n (length x - (a - base)) e in e ∙ sym (inside-true x base a n (record { from = from; word = word; upto = omega arith })))
     (λ e. let l = leb-false n (length x - (a - base)) e in e ∙ sym (past-false x base a n (omega arith)))
 
@@ -100,7 +101,7 @@ module _ (x : List ℕ) (base pointer n : ℕ) (r : Rest x base pointer n) where
         pub rest-judged : m < 64 → judged (pointer - base) (take (n + m) (drop (pointer - base) x)) ≡ run (textP base pointer) x
         rest-judged h =
             let chunk = chunkAfter x base pointer n in
-            by-test (hasNul chunk)
+            cases (hasNul chunk)
             (λ f.
             sym (next ∙ chunks-found x base pointer (r .left - 1) n (r .from) e f
             ∙ ap (λ (k : ℕ). judged (pointer - base) (take (n + k) (drop (pointer - base) x))) (sym counted)))
@@ -109,6 +110,6 @@ module _ (x : List ℕ) (base pointer n : ℕ) (r : Rest x base pointer n) where
         pub rest-again : 64 ≤ m → Rest x base pointer (n + 64)
         rest-again h =
             let chunk = chunkAfter x base pointer n in
-            by-test (hasNul chunk)
+            cases (hasNul chunk)
             (λ f. absurd (omega (arith, counted, full, before-shorter chunk f)))
             (λ f. record { left = r .left - 1; whole = omega arith; from = r .from; same = next ∙ chunks-next x base pointer (r .left - 1) n (r .from) e f })

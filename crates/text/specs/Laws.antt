@@ -9,6 +9,7 @@ use lib.Dec.{ltb, eqb}
 use lib.ListN.{length, getD, take, drop, length-take, length-drop}
 use lib.Seq.{getD-drop, take-add, drop-drop, take-take, length-take-le}
 use borrow.Author.Tests.{ltb-true, ltb-false, eqb-true, eqb-false, lt-ltb, le-ltb, le-leb, lt-leb}
+use Rattle.base.specs.Cases.{cases}
 use Rattle.prog.specs.Prog.{Prog, canRead, run, tried}
 use Rattle.prog.specs.Read.{true-inside, part-at}
 use Rattle.prog.specs.Run.{run-done, run-failed, run-got}
@@ -16,7 +17,7 @@ use Rattle.prog.specs.Honest.{Honest, honest-done, honest-fetch, honest-pick}
 use Rattle.prog.specs.Counts.{Within, within-done, within-fetch, within-pick, within-tried}
 use Rattle.utf8.specs.Utf8.{isUtf8}
 use Rattle.text.specs.Text.{refused, bytesOf, partOf, hasNul, beforeNul, judged, chunksP, textP}
-use Rattle.text.specs.Nul.{by-test, clear-append, before-front, before-clear, before-shorter, before-nul, before-first}
+use Rattle.text.specs.Nul.{clear-append, before-front, before-clear, before-shorter, before-nul, before-first}
 use Rattle.text.specs.declared.Text.{Text as Str}
 
 -- ---- a failed read is the answer 2
@@ -145,7 +146,7 @@ module _ (x : List ℕ) (base pointer : ℕ) where
     told-judged n short inside ends clear =
         let s = firstBytes x base pointer n in
         let full : length s ≡ n = length-take-le n (drop (pointer - base) x) (simp length-drop (omega arith)) in
-        by-test (isUtf8 s)
+        cases (isUtf8 s)
         (λ e. rw (e, full)
         (record {
           good = λ i. record { from = from; starts = refl; short = short; inside = inside; ends = ends; clear = clear; utf8 = e };
@@ -160,10 +161,10 @@ module _ (x : List ℕ) (base pointer : ℕ) where
         let o = pointer - base in
         let front = firstBytes x base pointer n in
         let chunk = chunkAfter x base pointer n in
-        by-test (canRead x base (pointer + n) 64)
+        cases (canRead x base (pointer + n) 64)
         (λ e.
         let i = true-inside x base (pointer + n) 64 e in
-        by-test (hasNul chunk)
+        cases (hasNul chunk)
         (λ f.
         let m = length (beforeNul chunk) in
         let l : m < 64 = omega (arith, before-shorter chunk f, length-take 64 (drop (o + n) x)) in
@@ -178,7 +179,7 @@ module _ (x : List ℕ) (base pointer : ℕ) where
   told : Tells (run (textP base pointer) x)
   unfolding hasNul
   told =
-      by-test (ltb pointer base)
+      cases (ltb pointer base)
       (λ e. subst Tells (sym (text-below x base pointer (ltb-true pointer base e))) (told-refused 3 (omega arith)))
       (λ e. let from = ltb-false pointer base e in subst Tells (sym (text-start x base pointer from)) (told-rest from 16 0 (omega arith) refl))
 
@@ -192,7 +193,7 @@ module _ (x : List ℕ) (base pointer : ℕ) where
   pub text-inside : run (textP base pointer) x .offset + run (textP base pointer) x .length ≤ length x
   text-inside =
       let t = run (textP base pointer) x in
-      by-test (eqb (t .number) 0)
+      cases (eqb (t .number) 0)
       (λ e. let i = text-accepted (eqb-true (t .number) 0 e) in omega arith)
       (λ e. rw (text-refused (eqb-false (t .number) 0 e)) (omega arith))
 

@@ -4,7 +4,8 @@ use mathlib.Core.Bool.{Bool, false, _||_}
 use mathlib.Core.List.{List, [], _∷_, _++_}
 use lib.Dec.{leb, ltb, eqb}
 use lib.ListN.{length, take, drop}
-use Rattle.prog.specs.Prog.{Prog, done, fetch, pick, run}
+use Rattle.base.specs.Choice.{pick}
+use Rattle.prog.specs.Prog.{Prog, done, fetch, run}
 use Rattle.utf8.specs.Utf8.{isUtf8}
 use Rattle.text.specs.declared.Text.{Text as Str}
 

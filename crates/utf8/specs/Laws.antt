@@ -6,14 +6,11 @@ use mathlib.Core.Bool.{Bool, true, false, not, cond, _&&_, false≢true}
 use native.Mathlib.Omega.{arith}
 use lib.Dec.{T, leb, ltb, eqb, eqb→eq, lit≤}
 use borrow.Author.Tests.{leb-true, le-leb, lt-leb, ltb-true, ltb-false}
+use Rattle.base.specs.Cases.{both-true}
 use Rattle.utf8.specs.Utf8.{within, classOf, begins, lowAfter, highAfter, lacking, isUtf8}
 use Rattle.utf8.specs.Rfc3629.{Octet, Utf8Tail, x00-7F, xC2-DF, xE0, xE1-EC, xED, xEE-EF, xF0, xF1-F3, xF4, Utf8Char, one, two, three, four, Utf8Octets, none, char}
 
 -- Tests: of both, of a range, of each number of a range.
-
-both-true : (p q : Bool) → (p && q) ≡ true → (p ≡ true) × (q ≡ true)
-both-true true q e = (refl, e)
-both-true false q e = absurd (false≢true e)
 
 T-both : (p q : Bool) → T (p && q) → T p × T q
 T-both true q t = (tt, t)

@@ -9,7 +9,7 @@ use mathlib.Core.List.{List, [], _∷_, _++_}
 use lib.Dec.{ltb, eqb}
 use lib.ListN.{length, length-append, take}
 use borrow.Author.Tests.{eqb-true}
-use Rattle.le.specs.Choice.{pick}
+use Rattle.base.specs.Choice.{pick}
 use Rattle.le.specs.Le.{u8At, u32At}
 use Rattle.prog.specs.Prog.{Prog, done, run, _>>=_}
 use Rattle.prog.specs.Counts.{Holds, holds-run, holds-done, holds-fetch, holds-pick, holds-bind}

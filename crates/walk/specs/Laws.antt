@@ -6,7 +6,7 @@ use mathlib.Core.Path.{_≡_, refl, _∙_}
 use mathlib.Core.Bool.{Bool}
 use mathlib.Core.List.{List, [], _∷_, _++_}
 use lib.Dec.{ltb, eqb}
-use Rattle.le.specs.Choice.{pick}
+use Rattle.base.specs.Choice.{pick}
 use Rattle.prog.specs.Prog.{Prog, done, run, trace, tried, triedShown, _>>=_}
 use Rattle.prog.specs.Run.{run-done, trace-done, tried-done, shown-done, run-aside, trace-aside, shown-aside, tried-aside}
 use Rattle.prog.specs.Honest.{Honest, honest-done, honest-fetch, honest-pick, honest-bind}

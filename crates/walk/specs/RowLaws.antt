@@ -7,6 +7,7 @@ use mathlib.Core.Path.{_≡_, refl, sym, ap, _∙_}
 use mathlib.Core.List.{List, [], _∷_, _++_, map, append-assoc, append-nil}
 use lib.ListN.{length, getD, take, drop, length-append}
 use lib.Seq.{getD-append-add}
+use Rattle.base.specs.Cases.{clash}
 use Rattle.text.specs.declared.Text.{Text}
 use Rattle.text.specs.Text.{refused}
 use Rattle.walk.specs.Walk.{Rom, RomSet, romsOf}
@@ -55,8 +56,8 @@ pub type-words : (rs ss : List Rom) (ts us : List Text) (rest : List ℕ) → ma
     → getD (romRows rs ts ++ rest) (romWidth * i) 0 ≡ getD (romRows ss us ++ rest) (romWidth * i) 0
 unfolding romRows
 type-words [] [] ts us rest e i = refl
-type-words [] (s ∷ ss) ts us rest e i = let z : _≡_ {A = ℕ} 0 1 = cc in absurd (omega arith)
-type-words (r ∷ rs) [] ts us rest e i = let z : _≡_ {A = ℕ} 0 1 = cc in absurd (omega arith)
+type-words [] (s ∷ ss) ts us rest e i = clash (cc)
+type-words (r ∷ rs) [] ts us rest e i = clash (cc)
 type-words (r ∷ rs) (s ∷ ss) ts us rest e zero =
     let f : romFront r ≡ romFront s = cc in
     rw (append-assoc (romRow r (getD ts 0 (refused 1))) (romRows rs (drop 1 ts)) rest, append-assoc (romRow s (getD us 0 (refused 1))) (romRows ss (drop 1 us)) rest)

@@ -9,11 +9,11 @@ use lib.Dec.{ltb, eqb, lit≤}
 use lib.ListN.{take}
 use lib.Seq.{getD-take}
 use borrow.Author.Tests.{ne-eqb, eqb-true}
-use Rattle.le.specs.Choice.{pick}
+use Rattle.base.specs.Cases.{cases}
+use Rattle.base.specs.Choice.{pick}
 use Rattle.le.specs.Le.{u8At, u32At}
 use Rattle.prog.specs.Prog.{Prog, done, fetch, _>>=_, run, canRead}
 use Rattle.prog.specs.Run.{run-done, run-bind, run-failed, run-got}
-use Rattle.text.specs.Nul.{by-test}
 use Rattle.header.specs.declared.SdrrInfoFields.{SdrrInfoFields}
 use Rattle.version.specs.Version.{from060}
 use Rattle.header.specs.Header.{hasFilenames}
@@ -49,7 +49,7 @@ module _ {A : Type 0} {x : List ℕ} {a : A} where
       → Tells x a (pick (canRead x base address n) m 2) (fetch base address n (stop 2 roms) k)
   unfolding onFrom
   tells-fetch {base} {address} {n} {m} {roms} {k} s =
-      by-test (canRead x base address n)
+      cases (canRead x base address n)
       (λ e. record { says = rw (e, run-got x base address n (stop 2 roms) k e) (s .says) })
       (λ e. record { says = rw (e, run-failed x base address n (stop 2 roms) k e) (refuses (some 1)) })
 
@@ -107,7 +107,7 @@ table-tells : (x : List ℕ) (base : ℕ) (filenames : Bool) (count table : ℕ)
     → Tells x (romsAt x base filenames table count) (tableNumber x base filenames count table) (tableP base filenames count table)
 unfolding tableP tableNumber romsAt
 table-tells x base filenames count table =
-    by-test (eqb count 0)
+    cases (eqb count 0)
     (λ e. rw (e, eqb-true count 0 e) tells-found)
     (λ e. rw e (tells-pick (ltb table base) (tells-stop (some 2)) (roms-tells x count base filenames table [])))
 
@@ -118,9 +118,9 @@ pointed-tells : (x : List ℕ) (base : ℕ) (counts : Bool) (pointer : ℕ)
 unfolding pointedP pointedNumber pointed
 pointed-tells x base false pointer = tells-found
 pointed-tells x base true pointer =
-    by-test (eqb pointer 0)
+    cases (eqb pointer 0)
     (λ e. rw e tells-found)
-    (λ e. rw e (by-test (eqb pointer 4294967295) (λ f. rw f tells-found) (λ f. rw (f, e) (tells-fetch tells-found))))
+    (λ e. rw e (cases (eqb pointer 4294967295) (λ f. rw f tells-found) (λ f. rw (f, e) (tells-fetch tells-found))))
 
 -- the bytes that are read of a set
 module _ (l : List ℕ) where
@@ -144,10 +144,10 @@ module _ (l : List ℕ) where
 
 -- the numbers of a set, one after the other
 or-none : (n : ℕ) → orNext n 0 ≡ n
-or-none n = by-test (eqb n 0) (λ e. rw e (sym (eqb-true n 0 e))) (λ e. rw e)
+or-none n = cases (eqb n 0) (λ e. rw e (sym (eqb-true n 0 e))) (λ e. rw e)
 
 or-assoc : (n m k : ℕ) → orNext (orNext n m) k ≡ orNext n (orNext m k)
-or-assoc n m k = by-test (eqb n 0) (λ e. rw e) (λ e. rw (e, e))
+or-assoc n m k = cases (eqb n 0) (λ e. rw e) (λ e. rw (e, e))
 
 set-number : (a b : Bool) (c o t : ℕ) → orNext (pick a 40 (pick b 41 (orNext c o))) t ≡ pick a 40 (pick b 41 (orNext c (orNext o (orNext t 0))))
 set-number true b c o t = refl
@@ -194,6 +194,6 @@ pub walk-tells : (x : List ℕ) (base : ℕ) (f : SdrrInfoFields) (count pointer
     (walkP base f count pointer)
 unfolding walkP walkNumber setsAt
 walk-tells x base f count pointer =
-    by-test (eqb count 0)
+    cases (eqb count 0)
     (λ e. rw (e, eqb-true count 0 e) tells-found)
     (λ e. rw e (tells-pick (ltb pointer base) (tells-stop (some 2)) (sets-tells x count base f pointer [])))

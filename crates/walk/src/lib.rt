@@ -29,8 +29,8 @@ fn judge_rom_info(s: &[u8]) -> u8
     if 33 < le::u8_at(s, 0) {
         return 42;
     }
-    let last = le::either(2 < le::u8_at(s, 2), 2 < le::u8_at(s, 3));
-    if le::either(2 < le::u8_at(s, 1), last) {
+    let last = base::either(2 < le::u8_at(s, 2), 2 < le::u8_at(s, 3));
+    if base::either(2 < le::u8_at(s, 1), last) {
         return 43;
     }
     0

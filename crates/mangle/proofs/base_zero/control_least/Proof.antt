@@ -1,6 +1,6 @@
 use borrow.Author.Needs.{needs}
-use Rattle.mangle.proofs.base.control_least.Statement.{statement}
-use Rattle.mangle.proofs.base.control_least.Tie as tie
+use Rattle.mangle.proofs.base_zero.control_least.Statement.{statement}
+use Rattle.mangle.proofs.base_zero.control_least.Tie as tie
 
 pick-num-requires : tie.Need-pick-num-requires
 pick-num-requires c κs = search needs

@@ -1,6 +1,6 @@
 use borrow.Author.Needs.{needs}
-use Rattle.mangle.proofs.base.least_of_four.Statement.{statement}
-use Rattle.mangle.proofs.base.least_of_four.Tie as tie
+use Rattle.mangle.proofs.base_zero.least_of_four.Statement.{statement}
+use Rattle.mangle.proofs.base_zero.least_of_four.Tie as tie
 
 lesser-requires : tie.Need-lesser-requires
 lesser-requires c κs = search needs

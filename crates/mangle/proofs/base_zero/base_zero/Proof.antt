@@ -1,7 +1,7 @@
 use borrow.Author.Needs.{needs}
 use Rattle.mangle.specs.BaseZero.{baseZero}
-use Rattle.mangle.proofs.base.base_zero.Statement.{statement}
-use Rattle.mangle.proofs.base.base_zero.Tie as tie
+use Rattle.mangle.proofs.base_zero.base_zero.Statement.{statement}
+use Rattle.mangle.proofs.base_zero.base_zero.Tie as tie
 
 least-pin-requires : tie.Need-least-pin-requires
 least-pin-requires c κs = search needs

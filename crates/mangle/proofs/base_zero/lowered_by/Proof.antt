@@ -1,7 +1,7 @@
 use borrow.Author.Needs.{needs}
 use Rattle.mangle.specs.BaseZero.{loweredBy}
-use Rattle.mangle.proofs.base.lowered_by.Statement.{statement}
-use Rattle.mangle.proofs.base.lowered_by.Tie as tie
+use Rattle.mangle.proofs.base_zero.lowered_by.Statement.{statement}
+use Rattle.mangle.proofs.base_zero.lowered_by.Tie as tie
 
 lower-all-requires : tie.Need-lower-all-requires
 lower-all-requires c κs = search needs

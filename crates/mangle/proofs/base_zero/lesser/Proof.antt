@@ -1,7 +1,7 @@
 use borrow.Author.Tests.{lt-ltb, le-ltb}
 use Rattle.mangle.specs.LeastLaws.{lesser}
-use Rattle.mangle.proofs.base.lesser.Statement.{statement}
-use Rattle.mangle.proofs.base.lesser.Tie as tie
+use Rattle.mangle.proofs.base_zero.lesser.Statement.{statement}
+use Rattle.mangle.proofs.base_zero.lesser.Tie as tie
 
 returns : tie.Need-returns
 unfolding lesser

@@ -6,8 +6,8 @@ use lib.ListN.{length, take, drop, length-set}
 use borrow.Author.Needs.{needs}
 use Rattle.mangle.specs.BaseZero.{lowered}
 use Rattle.mangle.proofs.Steps.{map-on, map-end}
-use Rattle.mangle.proofs.base.lower_all.Statement.{statement}
-use Rattle.mangle.proofs.base.lower_all.Tie as tie
+use Rattle.mangle.proofs.base_zero.lower_all.Statement.{statement}
+use Rattle.mangle.proofs.base_zero.lower_all.Tie as tie
 
 abbrev Inv-loop : tie.InvT-loop
 Inv-loop m ps to₀ i₀ to i = (i ≤ 16) × (length to ≡ 16) × (take i to ++ map (lowered m) (drop i ps) ≡ map (lowered m) ps)

@@ -4,7 +4,7 @@ use pins::SdrrPins;
 ghost use mathlib.Core.Path.{_≡_};
 ghost use mathlib.Core.List.{map};
 ghost use Prim.Native.Nat.{_-_};
-ghost use Rattle.le.specs.Choice.{pick};
+ghost use Rattle.base.specs.Choice.{pick};
 ghost use Rattle.mangle.specs.BaseZero.{lowered, has24, leastPin, loweredBy, baseZero};
 ghost use Rattle.mangle.specs.LeastLaws.{lesser, leastOfFour};
 

@@ -1,7 +1,7 @@
 use borrow.Author.Needs.{needs}
 use Rattle.mangle.specs.BaseZero.{lowered}
-use Rattle.mangle.proofs.base.lower.Statement.{statement}
-use Rattle.mangle.proofs.base.lower.Tie as tie
+use Rattle.mangle.proofs.base_zero.lower.Statement.{statement}
+use Rattle.mangle.proofs.base_zero.lower.Tie as tie
 
 less-requires : tie.Need-less-requires
 less-requires c κs = search needs

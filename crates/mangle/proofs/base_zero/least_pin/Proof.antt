@@ -4,12 +4,12 @@ use borrow.Author.Needs.{needs}
 use borrow.Author.Tests.{eq-eqb, ne-eqb}
 use Rattle.mangle.specs.BaseZero.{controls, leastOf, leastPin}
 use Rattle.mangle.specs.LeastLaws.{least-sixteen, least-seven}
-use Rattle.mangle.proofs.base.least_pin.Statement.{statement}
-use Rattle.mangle.proofs.base.least_pin.Tie as tie
-use Rattle.mangle.proofs.base.least_pin.Reads as reads
-use Rattle.mangle.proofs.base.least_pin.Lts as lts
-use Rattle.mangle.proofs.base.least_of_four.Reads as least-of-four-reads
-use Rattle.mangle.proofs.base.lesser.Reads as lesser-reads
+use Rattle.mangle.proofs.base_zero.least_pin.Statement.{statement}
+use Rattle.mangle.proofs.base_zero.least_pin.Tie as tie
+use Rattle.mangle.proofs.base_zero.least_pin.Reads as reads
+use Rattle.mangle.proofs.base_zero.least_pin.Lts as lts
+use Rattle.mangle.proofs.base_zero.least_of_four.Reads as least-of-four-reads
+use Rattle.mangle.proofs.base_zero.lesser.Reads as lesser-reads
 
 array-read-least-of-four : tie.Need-array-read-least-of-four
 array-read-least-of-four c = search needs

@@ -1,7 +1,5 @@
 // The rows of an opened board: what is looked up in them, and what reads go by.
-use fw_parser::SdrrInfo;
-use fw_parser::Settings;
-use rom_reads::Board;
+use board::Board;
 use text::Text;
 ghost use mathlib.Core.Path.{_≡_};
 ghost use lib.ListN.{length};
@@ -48,20 +46,6 @@ pub(crate) fn rom_row(set_rows: &[u32], set: u32, k: u32) -> u32 {
 
 pub(crate) fn first_type(set_rows: &[u32], rom_rows: &[u32], set: u32) -> u32 {
     rom_word(rom_rows, rom_row(set_rows, set, 0), 0)
-}
-
-pub(crate) fn board(settings: Settings, info: SdrrInfo) -> Board {
-    let fields = info.fields;
-    let line = fields.stm_line;
-    let pins = info.pins;
-    let sets = info.rom_sets;
-    Board {
-        flash_base: settings.flash_base,
-        cs0_base: settings.cs0_base,
-        line,
-        pins,
-        served: sets.served,
-    }
 }
 
 // Reads the byte at an offset of a set, or no byte where the set is empty: 0, or the number of the refusal.

@@ -50,7 +50,7 @@ fn whole_report(
     rom_rows: &[u32],
 ) {
     let settings = args::settings(request);
-    let board = lent::board(settings, info);
+    let board = fw_parser::board(settings, info);
     let item = info.rom_sets;
     heading(request, image.len());
     report::records(request.machine, image, info);
@@ -71,7 +71,7 @@ fn whole_report(
 
 fn answer(request: Request, image: &[u8], info: SdrrInfo, set_rows: &[u32], rom_rows: &[u32]) {
     let settings = args::settings(request);
-    let board = lent::board(settings, info);
+    let board = fw_parser::board(settings, info);
     let command = request.command;
     if command == args::READ {
         reads::read(request, image, board, set_rows, rom_rows);

@@ -5,9 +5,9 @@ use super::lent;
 use super::report;
 use super::same;
 use super::say;
+use board::Board;
 use fw_parser::SetsItem;
 use libc::STDOUT_FILENO;
-use rom_reads::Board;
 use text::Text;
 
 fn no_name(is_machine: bool, set: u32, k: u32, n: u32) {

@@ -2,8 +2,8 @@
 use super::record;
 use super::show;
 use super::words;
+use board::Board;
 use info::SdrrAddress;
-use rom_reads::Board;
 use types::Level;
 use types::SdrrCsSet;
 

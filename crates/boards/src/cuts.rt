@@ -7,10 +7,10 @@ use super::record;
 use super::report;
 use super::show;
 use super::words;
+use board::Board;
 use fw_parser::Opening;
 use fw_parser::Settings;
 use libc::STDOUT_FILENO;
-use rom_reads::Board;
 
 // What the cuts of a board came to: cuts refused as ended, cuts that show the whole's report and rows, cuts with an item that is ended,
 // reads that a cut accepted, cuts and reads of which demand 3 does not hold; and a sum over all answers.
@@ -467,7 +467,7 @@ fn compared(
         given,
         cut_image,
         board,
-        opened::board(s, info),
+        fw_parser::board(s, info),
         sets,
         roms,
         cut_sets,

@@ -2,8 +2,8 @@
 use super::calls;
 use super::record;
 use super::words;
+use board::Board;
 use pins::PinsItem;
-use rom_reads::Board;
 use types::McuLine;
 
 fn line(n: u32) -> McuLine {

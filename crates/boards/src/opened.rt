@@ -5,31 +5,16 @@ use super::record;
 use super::report;
 use super::show;
 use super::words;
+use board::Board;
 use fw_parser::Opening;
 use fw_parser::SdrrInfo;
 use fw_parser::Settings;
-use rom_reads::Board;
 
 fn settings(given: &[u8]) -> Settings {
     Settings {
         flash_base: record::word(given, 1),
         cs0_base: record::word(given, 2),
         info_offset: record::word(given, 3),
-    }
-}
-
-// What later calls look at.
-pub(crate) fn board(s: Settings, info: SdrrInfo) -> Board {
-    let fields = info.fields;
-    let line = fields.stm_line;
-    let pins = info.pins;
-    let sets = info.rom_sets;
-    Board {
-        flash_base: s.flash_base,
-        cs0_base: s.cs0_base,
-        line,
-        pins,
-        served: sets.served,
     }
 }
 
@@ -102,7 +87,7 @@ fn run_cuts(given: &[u8], info: SdrrInfo, sets: &[u32], roms: &[u32]) {
     }
     let report = report::words_of(info);
     let s = settings(given);
-    let b = board(s, info);
+    let b = fw_parser::board(s, info);
     let mut cut_sets = words::set_space();
     let mut cut_roms = words::set_space();
     cuts::run(
@@ -122,7 +107,7 @@ fn run_rows(given: &[u8], sets: &mut [u32], roms: &mut [u32]) {
     let s = settings(given);
     let o = open(record::image(given), s, sets, roms);
     let info = o.info;
-    show_opening(given, board(s, info), o, sets, roms);
+    show_opening(given, fw_parser::board(s, info), o, sets, roms);
     run_cuts(given, info, sets, roms);
 }
 

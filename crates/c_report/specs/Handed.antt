@@ -2,10 +2,10 @@
 -- Assumes nothing.
 use Prim.Native.Nat.{ℕ}
 use mathlib.Core.Path.{_≡_, refl}
+use Rattle.window.specs.Window.{baseAfter}
 use Rattle.types.specs.declared.McuLine.{McuLine}
 use Rattle.types.specs.declared.SdrrMcuPort.{SdrrMcuPort}
 use Rattle.types.specs.Types.{lineNumber, isRp2350, portNumber, portOf}
-use Rattle.header.specs.Header.{baseAfter}
 use Rattle.pins.specs.declared.PinsItem.{PinsItem}
 use Rattle.fw_parser.specs.declared.SdrrInfo.{SdrrInfo}
 use Rattle.c_report.specs.Report.{lineIn, headerOut, setsOut, pinsOut, pinsIn, reportOut, boardIn}

@@ -13,7 +13,7 @@ use Rattle.metadata.specs.declared.MetadataItem.{MetadataItem}
 use Rattle.pins.specs.declared.PinsItem.{PinsItem}
 use Rattle.fw_parser.specs.declared.SetsItem.{SetsItem}
 use Rattle.fw_parser.specs.declared.SdrrInfo.{SdrrInfo}
-use Rattle.rom_reads.specs.declared.Board.{Board}
+use Rattle.board.specs.declared.Board.{Board}
 use Rattle.c_report.specs.declared.OneromHeader.{OneromHeader}
 use Rattle.c_report.specs.declared.OneromString.{OneromString}
 use Rattle.c_report.specs.declared.OneromExtraInfo.{OneromExtraInfo}

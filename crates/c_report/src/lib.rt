@@ -1,4 +1,5 @@
 // The report as C and Rust hold it: numbers of their own widths, so that every value handed back is a report.
+use board::Board;
 use extra_info::ExtraInfoItem;
 use extra_info::FirePioDefault;
 use fw_parser::SdrrInfo;
@@ -7,7 +8,6 @@ use header::SdrrInfoFields;
 use metadata::MetadataItem;
 use pins::PinsItem;
 use pins::SdrrPins;
-use rom_reads::Board;
 use text::Text;
 use types::McuLine;
 use types::McuStorage;

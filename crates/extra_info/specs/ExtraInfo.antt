@@ -8,7 +8,7 @@ use Rattle.base.specs.Choice.{pick}
 use Rattle.le.specs.Le.{u8At, u32At, flagAt}
 use Rattle.types.specs.declared.SdrrMcuPort.{SdrrMcuPort}
 use Rattle.types.specs.Types.{portOf}
-use Rattle.prog.specs.Prog.{Prog, done, fetch}
+use Rattle.prog.specs.Prog.{Prog, recordP}
 use Rattle.version.specs.declared.FirmwareVersion.{FirmwareVersion}
 use Rattle.version.specs.Version.{from060}
 use Rattle.extra_info.specs.declared.FirePioDefault.{FirePioDefault}
@@ -52,5 +52,4 @@ extraInfoOf v s = pick (ltb (length s) 256) (refused 2) (record { number = 0; «
 
 -- 3: below base. 2: ended.
 unfoldable pub extraInfoP : ℕ → ℕ → FirmwareVersion → Prog ExtraInfoItem
-extraInfoP base pointer v =
-    pick (ltb pointer base) (done (refused 3)) (fetch base pointer 256 (refused 2) λ s. done (extraInfoOf v s))
+extraInfoP base pointer v = recordP base pointer 256 refused (extraInfoOf v)

@@ -84,12 +84,9 @@ pub fn parse_extra_info(data: &[u8], version: FirmwareVersion) -> ExtraInfoItem
 pub fn read_extra_info(image: &[u8], base: u32, ptr: u32, version: FirmwareVersion) -> ExtraInfoItem
     ensures { λ r. ⌜ r ≡ run (extraInfoP base ptr version) (now (image .entry)) ⌝ }
 {
-    if ptr < base {
-        return refuse(3);
+    let number = window::pointer_number(image, base, ptr, EXTRA_INFO_SIZE);
+    if number != 0 {
+        return refuse(number);
     }
-    if !text::can_read(image, base, ptr as u64, EXTRA_INFO_SIZE) {
-        return refuse(2);
-    }
-    let at = (ptr - base) as usize;
-    parse_extra_info(&image[at..], version)
+    parse_extra_info(window::image_from(image, base, ptr as u64), version)
 }

@@ -6,8 +6,9 @@ use mathlib.Core.Path.{_≡_, refl}
 use mathlib.Core.Bool.{true, false}
 use mathlib.Core.List.{List, [], _∷_}
 use lib.ListN.{take, replicate}
+use Rattle.window.specs.Window.{canRead, pastWindow}
 use Rattle.le.specs.Le.{startsWith}
-use Rattle.prog.specs.Prog.{run, trace, endOf, canRead, answer, reach, tried, triedShown, readsOf, andThen, looked}
+use Rattle.prog.specs.Prog.{run, trace, endOf, answer, reach, tried, triedShown, readsOf, andThen, looked}
 use Rattle.utf8.specs.Utf8.{classOf, lowAfter, highAfter, lacking, isUtf8}
 use Rattle.types.specs.declared.McuLine.{McuLine}
 use Rattle.types.specs.declared.McuStorage.{McuStorage}
@@ -152,30 +153,30 @@ abbrev oldRomRow : List ℕ
 oldRomRow = 2 ∷ 0 ∷ 2 ∷ 2 ∷ 0 ∷ 0 ∷ 1 ∷ []
 
 old-board : seen stm 8 7 oldImage ≡ shows (oldReport (record { number = 0; pins = oldPins })) oldSetRow oldRomRow
-unfolding startsWith run trace endOf canRead answer tried triedShown readsOf andThen looked classOf lowAfter highAfter lacking isUtf8 lineOf isRp2350 storageOf portOf hasNul beforeNul judged chunksP textP before fieldsOf wholeOf headerOf headerP E.fieldsOf noExtraInfo extraInfoOf extraInfoP metadataOf metadataP P.fieldsOf noPins pinsOf pinsP romOf judgeRom romP romsP tableP pointedP setP setsP O.setsP walkP romsOf nameP namesP walkNamesP setRow countsOf setRowsAfter romFront nameWords romRow romRows lookP rowP reportOf verdict openP opening oldImage
+unfolding pastWindow startsWith run trace endOf canRead answer tried triedShown readsOf andThen looked classOf lowAfter highAfter lacking isUtf8 lineOf isRp2350 storageOf portOf hasNul beforeNul judged chunksP textP before fieldsOf wholeOf headerOf headerP E.fieldsOf noExtraInfo extraInfoOf extraInfoP metadataOf metadataP P.fieldsOf noPins pinsOf pinsP romOf judgeRom romP romsP tableP pointedP setP setsP O.setsP walkP romsOf nameP namesP walkNamesP setRow countsOf setRowsAfter romFront nameWords romRow romRows lookP rowP reportOf verdict openP opening oldImage
 old-board = refl
 
 -- every read: header, date, revision, extra info, set, ROM pointer, ROM info, pins
 old-reads : tried (openP stm 8 7) oldImage ≡ 8
-unfolding startsWith run trace endOf canRead answer tried triedShown readsOf andThen looked classOf lowAfter highAfter lacking isUtf8 lineOf isRp2350 storageOf portOf hasNul beforeNul judged chunksP textP before fieldsOf wholeOf headerOf headerP E.fieldsOf noExtraInfo extraInfoOf extraInfoP metadataOf metadataP P.fieldsOf noPins pinsOf pinsP romOf judgeRom romP romsP tableP pointedP setP setsP O.setsP walkP romsOf nameP namesP walkNamesP setRow countsOf setRowsAfter romFront nameWords romRow romRows lookP rowP reportOf verdict openP opening oldImage
+unfolding pastWindow startsWith run trace endOf canRead answer tried triedShown readsOf andThen looked classOf lowAfter highAfter lacking isUtf8 lineOf isRp2350 storageOf portOf hasNul beforeNul judged chunksP textP before fieldsOf wholeOf headerOf headerP E.fieldsOf noExtraInfo extraInfoOf extraInfoP metadataOf metadataP P.fieldsOf noPins pinsOf pinsP romOf judgeRom romP romsP tableP pointedP setP setsP O.setsP walkP romsOf nameP namesP walkNamesP setRow countsOf setRowsAfter romFront nameWords romRow romRows lookP rowP reportOf verdict openP opening oldImage
 old-reads = refl
 
 old-reach : reach (openP stm 8 7) oldImage ≡ 488
-unfolding startsWith run trace endOf canRead answer tried triedShown readsOf andThen looked classOf lowAfter highAfter lacking isUtf8 lineOf isRp2350 storageOf portOf hasNul beforeNul judged chunksP textP before fieldsOf wholeOf headerOf headerP E.fieldsOf noExtraInfo extraInfoOf extraInfoP metadataOf metadataP P.fieldsOf noPins pinsOf pinsP romOf judgeRom romP romsP tableP pointedP setP setsP O.setsP walkP romsOf nameP namesP walkNamesP setRow countsOf setRowsAfter romFront nameWords romRow romRows lookP rowP reportOf verdict openP opening oldImage
+unfolding pastWindow startsWith run trace endOf canRead answer tried triedShown readsOf andThen looked classOf lowAfter highAfter lacking isUtf8 lineOf isRp2350 storageOf portOf hasNul beforeNul judged chunksP textP before fieldsOf wholeOf headerOf headerP E.fieldsOf noExtraInfo extraInfoOf extraInfoP metadataOf metadataP P.fieldsOf noPins pinsOf pinsP romOf judgeRom romP romsP tableP pointedP setP setsP O.setsP walkP romsOf nameP namesP walkNamesP setRow countsOf setRowsAfter romFront nameWords romRow romRows lookP rowP reportOf verdict openP opening oldImage
 old-reach = refl
 
 -- one byte less, and the pins are ended
 old-cut : seen stm 8 7 (take 487 oldImage) ≡ shows (oldReport (P.refused 2)) oldSetRow oldRomRow
-unfolding startsWith run trace endOf canRead answer tried triedShown readsOf andThen looked classOf lowAfter highAfter lacking isUtf8 lineOf isRp2350 storageOf portOf hasNul beforeNul judged chunksP textP before fieldsOf wholeOf headerOf headerP E.fieldsOf noExtraInfo extraInfoOf extraInfoP metadataOf metadataP P.fieldsOf noPins pinsOf pinsP romOf judgeRom romP romsP tableP pointedP setP setsP O.setsP walkP romsOf nameP namesP walkNamesP setRow countsOf setRowsAfter romFront nameWords romRow romRows lookP rowP reportOf verdict openP opening oldImage
+unfolding pastWindow startsWith run trace endOf canRead answer tried triedShown readsOf andThen looked classOf lowAfter highAfter lacking isUtf8 lineOf isRp2350 storageOf portOf hasNul beforeNul judged chunksP textP before fieldsOf wholeOf headerOf headerP E.fieldsOf noExtraInfo extraInfoOf extraInfoP metadataOf metadataP P.fieldsOf noPins pinsOf pinsP romOf judgeRom romP romsP tableP pointedP setP setsP O.setsP walkP romsOf nameP namesP walkNamesP setRow countsOf setRowsAfter romFront nameWords romRow romRows lookP rowP reportOf verdict openP opening oldImage
 old-cut = refl
 
 -- a row short: 45; no row at all: 44
 old-short : seen stm 8 6 oldImage ≡ closed 45
-unfolding startsWith run trace endOf canRead answer tried triedShown readsOf andThen looked classOf lowAfter highAfter lacking isUtf8 lineOf isRp2350 storageOf portOf hasNul beforeNul judged chunksP textP before fieldsOf wholeOf headerOf headerP E.fieldsOf noExtraInfo extraInfoOf extraInfoP metadataOf metadataP P.fieldsOf noPins pinsOf pinsP romOf judgeRom romP romsP tableP pointedP setP setsP O.setsP walkP romsOf nameP namesP walkNamesP setRow countsOf setRowsAfter romFront nameWords romRow romRows lookP rowP reportOf verdict openP opening oldImage
+unfolding pastWindow startsWith run trace endOf canRead answer tried triedShown readsOf andThen looked classOf lowAfter highAfter lacking isUtf8 lineOf isRp2350 storageOf portOf hasNul beforeNul judged chunksP textP before fieldsOf wholeOf headerOf headerP E.fieldsOf noExtraInfo extraInfoOf extraInfoP metadataOf metadataP P.fieldsOf noPins pinsOf pinsP romOf judgeRom romP romsP tableP pointedP setP setsP O.setsP walkP romsOf nameP namesP walkNamesP setRow countsOf setRowsAfter romFront nameWords romRow romRows lookP rowP reportOf verdict openP opening oldImage
 old-short = refl
 
 old-none : seen stm 0 0 oldImage ≡ closed 44
-unfolding startsWith run trace endOf canRead answer tried triedShown readsOf andThen looked classOf lowAfter highAfter lacking isUtf8 lineOf isRp2350 storageOf portOf hasNul beforeNul judged chunksP textP before fieldsOf wholeOf headerOf headerP E.fieldsOf noExtraInfo extraInfoOf extraInfoP metadataOf metadataP P.fieldsOf noPins pinsOf pinsP romOf judgeRom romP romsP tableP pointedP setP setsP O.setsP walkP romsOf nameP namesP walkNamesP setRow countsOf setRowsAfter romFront nameWords romRow romRows lookP rowP reportOf verdict openP opening oldImage
+unfolding pastWindow startsWith run trace endOf canRead answer tried triedShown readsOf andThen looked classOf lowAfter highAfter lacking isUtf8 lineOf isRp2350 storageOf portOf hasNul beforeNul judged chunksP textP before fieldsOf wholeOf headerOf headerP E.fieldsOf noExtraInfo extraInfoOf extraInfoP metadataOf metadataP P.fieldsOf noPins pinsOf pinsP romOf judgeRom romP romsP tableP pointedP setP setsP O.setsP walkP romsOf nameP namesP walkNamesP setRow countsOf setRowsAfter romFront nameWords romRow romRows lookP rowP reportOf verdict openP opening oldImage
 old-none = refl
 
 -- ---- 0.6.1 on an Rp2350, two sets, three ROMs, of which two have the same name
@@ -299,14 +300,14 @@ newRomRows o l n rest = 2 ∷ 0 ∷ 2 ∷ 2 ∷ o ∷ l ∷ n ∷ 0 ∷ 0 ∷ 1 
 
 -- a word more than is needed stays as it was
 new-board : seen rp 16 22 newImage ≡ shows (newReport (record { number = 0; pins = newPins })) newSetRows (newRomRows 748 7 0 (0 ∷ []))
-unfolding startsWith run trace endOf canRead answer tried triedShown readsOf andThen looked classOf lowAfter highAfter lacking isUtf8 lineOf isRp2350 storageOf portOf hasNul beforeNul judged chunksP textP before fieldsOf wholeOf headerOf headerP E.fieldsOf noExtraInfo extraInfoOf extraInfoP metadataOf metadataP P.fieldsOf noPins pinsOf pinsP romOf judgeRom romP romsP tableP pointedP setP setsP O.setsP walkP romsOf nameP namesP walkNamesP setRow countsOf setRowsAfter romFront nameWords romRow romRows lookP rowP reportOf verdict openP opening newImage
+unfolding pastWindow startsWith run trace endOf canRead answer tried triedShown readsOf andThen looked classOf lowAfter highAfter lacking isUtf8 lineOf isRp2350 storageOf portOf hasNul beforeNul judged chunksP textP before fieldsOf wholeOf headerOf headerP E.fieldsOf noExtraInfo extraInfoOf extraInfoP metadataOf metadataP P.fieldsOf noPins pinsOf pinsP romOf judgeRom romP romsP tableP pointedP setP setsP O.setsP walkP romsOf nameP namesP walkNamesP setRow countsOf setRowsAfter romFront nameWords romRow romRows lookP rowP reportOf verdict openP opening newImage
 new-board = refl
 
 new-reads : tried (openP rp 16 21) newImage ≡ 17
-unfolding startsWith run trace endOf canRead answer tried triedShown readsOf andThen looked classOf lowAfter highAfter lacking isUtf8 lineOf isRp2350 storageOf portOf hasNul beforeNul judged chunksP textP before fieldsOf wholeOf headerOf headerP E.fieldsOf noExtraInfo extraInfoOf extraInfoP metadataOf metadataP P.fieldsOf noPins pinsOf pinsP romOf judgeRom romP romsP tableP pointedP setP setsP O.setsP walkP romsOf nameP namesP walkNamesP setRow countsOf setRowsAfter romFront nameWords romRow romRows lookP rowP reportOf verdict openP opening newImage
+unfolding pastWindow startsWith run trace endOf canRead answer tried triedShown readsOf andThen looked classOf lowAfter highAfter lacking isUtf8 lineOf isRp2350 storageOf portOf hasNul beforeNul judged chunksP textP before fieldsOf wholeOf headerOf headerP E.fieldsOf noExtraInfo extraInfoOf extraInfoP metadataOf metadataP P.fieldsOf noPins pinsOf pinsP romOf judgeRom romP romsP tableP pointedP setP setsP O.setsP walkP romsOf nameP namesP walkNamesP setRow countsOf setRowsAfter romFront nameWords romRow romRows lookP rowP reportOf verdict openP opening newImage
 new-reads = refl
 
 -- cut within the name's chunk: the names and the pins are ended, all else is shown
 new-cut : seen rp 16 21 (take 811 newImage) ≡ shows (newReport (P.refused 2)) newSetRows (newRomRows 0 0 2 [])
-unfolding startsWith run trace endOf canRead answer tried triedShown readsOf andThen looked classOf lowAfter highAfter lacking isUtf8 lineOf isRp2350 storageOf portOf hasNul beforeNul judged chunksP textP before fieldsOf wholeOf headerOf headerP E.fieldsOf noExtraInfo extraInfoOf extraInfoP metadataOf metadataP P.fieldsOf noPins pinsOf pinsP romOf judgeRom romP romsP tableP pointedP setP setsP O.setsP walkP romsOf nameP namesP walkNamesP setRow countsOf setRowsAfter romFront nameWords romRow romRows lookP rowP reportOf verdict openP opening newImage
+unfolding pastWindow startsWith run trace endOf canRead answer tried triedShown readsOf andThen looked classOf lowAfter highAfter lacking isUtf8 lineOf isRp2350 storageOf portOf hasNul beforeNul judged chunksP textP before fieldsOf wholeOf headerOf headerP E.fieldsOf noExtraInfo extraInfoOf extraInfoP metadataOf metadataP P.fieldsOf noPins pinsOf pinsP romOf judgeRom romP romsP tableP pointedP setP setsP O.setsP walkP romsOf nameP namesP walkNamesP setRow countsOf setRowsAfter romFront nameWords romRow romRows lookP rowP reportOf verdict openP opening newImage
 new-cut = refl

@@ -11,17 +11,18 @@ use lib.Seq.{take-append-seam, drop-append-seam}
 use borrow.Author.Tests.{ltb-false, eqb-false}
 use Rattle.base.specs.Cases.{cases, clash}
 use Rattle.base.specs.Choice.{pick}
+use Rattle.window.specs.Window.{baseAfter, beyondWindow}
 use Rattle.prog.specs.Prog.{run}
 use Rattle.prog.specs.Run.{run-done, run-bind, run-map}
 use Rattle.text.specs.declared.Text.{Text}
 use Rattle.header.specs.declared.SdrrInfoHeader.{SdrrInfoHeader}
 use Rattle.header.specs.declared.HeaderAnswer.{HeaderAnswer}
-use Rattle.header.specs.Header.{headerP, baseAfter}
+use Rattle.header.specs.Header.{headerP}
 use Rattle.walk.specs.Walk.{RomSet, romsOf}
 use Rattle.walk.specs.Rows.{setWidth, romWidth, shortSets, shortRoms, overwritten}
 use Rattle.fw_parser.specs.declared.Settings.{Settings}
 use Rattle.fw_parser.specs.declared.SdrrInfo.{SdrrInfo}
-use Rattle.fw_parser.specs.Opening.{Items, Row, setsOf, reportOf, itemsOf, rowP, Opened, refused, opened, verdict, afterHeader, openP, beyondWindow, opening}
+use Rattle.fw_parser.specs.Opening.{Items, Row, setsOf, reportOf, itemsOf, rowP, Opened, refused, opened, verdict, afterHeader, openP, opening}
 
 abbrev pub Fits : ℕ → ℕ → Opened → Type 0
 Fits setWords romWords (refused n) = n ≡ 0 → ⊥
@@ -56,7 +57,7 @@ module _ (n m : ℕ) where
 
     pub opening-fits : Fits n m (opening s n m x)
     unfolding opening
-    opening-fits = go (beyondWindow s x)
+    opening-fits = go (beyondWindow (s .«flash_base») (s .«cs0_base») x)
       where
         go : (b : Bool) → Fits n m (pick b (refused 1) (run (openP s n m) x))
         go true = λ (z : _≡_ {A = ℕ} 1 0). omega arith
@@ -65,7 +66,7 @@ module _ (n m : ℕ) where
     -- an accepted opening is what the reads answer
     pub opened-run : (r : SdrrInfo) (ss : List RomSet) (names : List Text) → opening s n m x ≡ opened r ss names → run (openP s n m) x ≡ opened r ss names
     unfolding opening
-    opened-run r ss names e = go (beyondWindow s x) e
+    opened-run r ss names e = go (beyondWindow (s .«flash_base») (s .«cs0_base») x) e
       where
         go : (b : Bool) → pick b (refused 1) (run (openP s n m) x) ≡ opened r ss names → run (openP s n m) x ≡ opened r ss names
         go true f = clash (cc)

@@ -9,13 +9,14 @@ use lib.Dec.{eqb}
 use lib.ListN.{getD}
 use Rattle.base.specs.Cases.{clash}
 use Rattle.base.specs.Choice.{pick}
+use Rattle.window.specs.Window.{baseAfter}
 use Rattle.prog.specs.Prog.{Prog, done, _>>=_, also, mapP, run}
 use Rattle.prog.specs.Run.{run-done, run-bind, run-map, run-also}
 use Rattle.text.specs.declared.Text.{Text}
 use Rattle.text.specs.Text.{textP}
 use Rattle.header.specs.declared.SdrrInfoHeader.{SdrrInfoHeader}
 use Rattle.header.specs.declared.HeaderAnswer.{HeaderAnswer}
-use Rattle.header.specs.Header.{headerP, baseAfter}
+use Rattle.header.specs.Header.{headerP}
 use Rattle.extra_info.specs.declared.ExtraInfoItem.{ExtraInfoItem}
 use Rattle.extra_info.specs.ExtraInfo.{extraInfoP}
 use Rattle.pins.specs.declared.PinsItem.{PinsItem}

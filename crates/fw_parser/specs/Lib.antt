@@ -1,12 +1,6 @@
 pub mod Opening
 pub mod Reply
 pub mod Parts
-pub mod Shown
-pub mod Cuts
-pub mod CutOpening
-pub mod FirstRead
-pub mod CutReads
-pub mod Demand3
 pub mod Items
 pub mod OpenSteps
 pub mod Sanity

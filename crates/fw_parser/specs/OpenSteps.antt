@@ -10,6 +10,7 @@ use lib.ListN.{length}
 use borrow.Author.Tests.{lt-ltb, le-ltb, ltb-true, ltb-false, ne-eqb, eq-eqb}
 use Rattle.base.specs.Cases.{cases, clash}
 use Rattle.base.specs.Choice.{pick}
+use Rattle.window.specs.Window.{baseAfter, beyondWindow}
 use Rattle.prog.specs.Prog.{done, run}
 use Rattle.prog.specs.Run.{run-done, run-bind, run-map, run-also}
 use Rattle.text.specs.declared.Text.{Text}
@@ -17,7 +18,7 @@ use Rattle.text.specs.Text.{textP}
 use Rattle.header.specs.declared.SdrrInfoFields.{SdrrInfoFields}
 use Rattle.header.specs.declared.SdrrInfoHeader.{SdrrInfoHeader}
 use Rattle.header.specs.declared.HeaderAnswer.{HeaderAnswer}
-use Rattle.header.specs.Header.{headerP, baseAfter}
+use Rattle.header.specs.Header.{headerP}
 use Rattle.extra_info.specs.ExtraInfo.{extraInfoP}
 use Rattle.pins.specs.Pins.{pinsP}
 use Rattle.walk.specs.declared.Walked.{Walked}
@@ -26,28 +27,15 @@ use Rattle.walk.specs.Names.{walkNamesP}
 use Rattle.walk.specs.Rows.{setRows, setRowsAfter, romRows, shortSets, shortRoms, overwritten}
 use Rattle.walk.specs.Numbers.{Numbered, walk-numbered}
 use Rattle.rom_rows.specs.Reply as rows
-use Rattle.window.specs.declared.SetsSource.{SetsSource}
-use Rattle.window.specs.declared.Records.{Records}
-use Rattle.window.specs.Records.{sourceOf, recordsOf}
+use Rattle.records.specs.declared.SetsSource.{SetsSource}
+use Rattle.records.specs.declared.Records.{Records}
+use Rattle.records.specs.Records.{sourceOf, recordsOf}
 use Rattle.fw_parser.specs.declared.Settings.{Settings}
 use Rattle.fw_parser.specs.declared.SdrrInfo.{SdrrInfo}
 use Rattle.fw_parser.specs.declared.Opening.{Opening}
-use Rattle.fw_parser.specs.Opening.{Looked, lookP, setCount, setsPointer, metadataEnded, counted, setsP, Items, itemsOf, rowP, setsItem, reportOf, setsOf, Opened, refused, opened, verdict, afterHeader, openP, beyondWindow, opening, setRowsLeft, romRowsLeft}
+use Rattle.fw_parser.specs.Opening.{Looked, lookP, setCount, setsPointer, metadataEnded, counted, setsP, Items, itemsOf, rowP, setsItem, reportOf, setsOf, Opened, refused, opened, verdict, afterHeader, openP, opening, setRowsLeft, romRowsLeft}
 use Rattle.fw_parser.specs.Reply.{noReport, refusedWith, replyOf}
 use Rattle.fw_parser.specs.Parts.{walkOf, isShort, itemOf, reportWith}
-
--- ---- the window
-
--- a test without the sum
-past-window : (base n : ℕ) → base ≤ 4294967296 → ltb (4294967296 - base) n ≡ ltb 4294967296 (base + n)
-past-window base n h =
-    cases (ltb (4294967296 - base) n)
-    (λ e. e ∙ sym (lt-ltb 4294967296 (base + n) (let f = ltb-true (4294967296 - base) n e in omega arith)))
-    (λ e. e ∙ sym (le-ltb 4294967296 (base + n) (let f = ltb-false (4294967296 - base) n e in omega arith)))
-
-pub past-either : (s : Settings) (x : List ℕ) → s .«flash_base» ≤ 4294967296 → s .«cs0_base» ≤ 4294967296
-    → (ltb (4294967296 - s .«flash_base») (length x) || ltb (4294967296 - s .«cs0_base») (length x)) ≡ beyondWindow s x
-past-either s x h i = rw (past-window (s .«flash_base») (length x) h, past-window (s .«cs0_base») (length x) i)
 
 -- ---- the walk that metadata leaves
 
@@ -207,11 +195,11 @@ module _ (s : Settings) (x ls lr : List ℕ) where
   unfolding replyOf
   left-alone n e = leaves (refused n) e (refusedWith n) ls lr refl refl refl
 
-  pub left-beyond : beyondWindow s x ≡ true → Leaves s x ls lr (refusedWith 1) ls lr
+  pub left-beyond : beyondWindow (s .«flash_base») (s .«cs0_base») x ≡ true → Leaves s x ls lr (refusedWith 1) ls lr
   unfolding opening
   left-beyond e = left-alone 1 (rw e)
 
-  module _ (inside : beyondWindow s x ≡ false) (a : HeaderAnswer) (ea : a ≡ run (headerP (s .«flash_base») (s .«info_offset»)) x) where
+  module _ (inside : beyondWindow (s .«flash_base») (s .«cs0_base») x ≡ false) (a : HeaderAnswer) (ea : a ≡ run (headerP (s .«flash_base») (s .«info_offset»)) x) where
     behind : opening s (length ls) (length lr) x ≡ run (afterHeader s (length ls) (length lr) a) x
     unfolding opening openP
     behind = rw inside (run-bind x (headerP (s .«flash_base») (s .«info_offset»)) (afterHeader s (length ls) (length lr)) ∙ ap (λ (b : HeaderAnswer). run (afterHeader s (length ls) (length lr) b) x) (sym ea))

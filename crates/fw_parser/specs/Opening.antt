@@ -5,12 +5,13 @@ use mathlib.Core.List.{List, []}
 use lib.Dec.{ltb, eqb}
 use lib.ListN.{length}
 use Rattle.base.specs.Choice.{pick}
+use Rattle.window.specs.Window.{baseAfter, beyondWindow}
 use Rattle.prog.specs.Prog.{Prog, done, _>>=_, also, mapP, run}
 use Rattle.text.specs.declared.Text.{Text}
 use Rattle.text.specs.Text.{textP}
 use Rattle.header.specs.declared.SdrrInfoHeader.{SdrrInfoHeader}
 use Rattle.header.specs.declared.HeaderAnswer.{HeaderAnswer}
-use Rattle.header.specs.Header.{headerP, baseAfter}
+use Rattle.header.specs.Header.{headerP}
 use Rattle.extra_info.specs.declared.ExtraInfoItem.{ExtraInfoItem}
 use Rattle.extra_info.specs.ExtraInfo.{extraInfoP}
 use Rattle.pins.specs.declared.PinsItem.{PinsItem}
@@ -18,8 +19,8 @@ use Rattle.pins.specs.Pins.{pinsP}
 use Rattle.walk.specs.Walk.{RomSet, Part, stop, found, walkP, romsOf}
 use Rattle.walk.specs.Names.{walkNamesP}
 use Rattle.walk.specs.Rows.{setRows, romRows, shortSets, shortRoms, overwritten}
-pub use Rattle.window.specs.Looked.{Looked, notLookedFor, looked, setCount, setsPointer, metadataEnded, metadataItem}
-unfoldable pub use Rattle.window.specs.Looked.{lookP}
+pub use Rattle.records.specs.Looked.{Looked, notLookedFor, looked, setCount, setsPointer, metadataEnded, metadataItem}
+unfoldable pub use Rattle.records.specs.Looked.{lookP}
 use Rattle.fw_parser.specs.declared.Settings.{Settings}
 use Rattle.fw_parser.specs.declared.SetsItem.{SetsItem}
 use Rattle.fw_parser.specs.declared.SdrrInfo.{SdrrInfo}
@@ -126,12 +127,9 @@ afterHeader s setWords romWords a =
 unfoldable pub openP : Settings → ℕ → ℕ → Prog Opened
 openP s setWords romWords = headerP (s .«flash_base») (s .«info_offset») >>= afterHeader s setWords romWords
 
--- "Window check". 1: either base plus image length exceeds 2^32.
-abbrev pub beyondWindow : Settings → List ℕ → Bool
-beyondWindow s x = ltb 4294967296 (s .«flash_base» + length x) || ltb 4294967296 (s .«cs0_base» + length x)
-
+-- 1: the window check, before anything else
 unfoldable pub opening : Settings → ℕ → ℕ → List ℕ → Opened
-opening s setWords romWords x = pick (beyondWindow s x) (refused 1) (run (openP s setWords romWords) x)
+opening s setWords romWords x = pick (beyondWindow (s .«flash_base») (s .«cs0_base») x) (refused 1) (run (openP s setWords romWords) x)
 
 -- ---- the rows, as the opening leaves them: a refusal changes no word, an acceptance only the rows it names
 

@@ -8,8 +8,8 @@ use Rattle.base.specs.Choice.{pick}
 use Rattle.prog.specs.Prog.{run}
 use Rattle.header.specs.declared.SdrrInfoFields.{SdrrInfoFields}
 use Rattle.walk.specs.Walk.{RomSet, Part, stop, walkP}
-use Rattle.window.specs.declared.SetsSource.{SetsSource}
-use Rattle.window.specs.declared.Records.{Records}
+use Rattle.records.specs.declared.SetsSource.{SetsSource}
+use Rattle.records.specs.declared.Records.{Records}
 use Rattle.fw_parser.specs.declared.SetsItem.{SetsItem}
 use Rattle.fw_parser.specs.declared.SdrrInfo.{SdrrInfo}
 

@@ -1,14 +1,13 @@
--- Demands 1 and 3 of the opening, in one place. `parse_flash` ensures, for every image x, settings s and lent rows:
+-- Demand 1 of the opening. `parse_flash` ensures, for every image x, settings s and lent rows:
 --   reply: what it returns is `replied s sets roms x`;
 --   sets: the set rows afterwards are `setsAfter s sets roms x`;
 --   roms: the ROM rows afterwards are `romsAfter s sets roms x`.
 -- The image is lent for reading only. What is proved here of these three therefore holds of the code.
 -- Assumes nothing.
-use Prim.Native.Nat.{ℕ, _*_, _≤_}
-use mathlib.Core.Path.{_≡_, refl, ap}
+use Prim.Native.Nat.{ℕ, _*_}
+use mathlib.Core.Path.{_≡_, refl}
 use mathlib.Core.List.{List}
-use lib.ListN.{length, take}
-use Rattle.prog.specs.Prog.{reach}
+use lib.ListN.{length}
 use Rattle.text.specs.declared.Text.{Text}
 use Rattle.walk.specs.Walk.{RomSet, romsOf}
 use Rattle.walk.specs.Rows.{setWidth, romWidth, setRows, romRows}
@@ -16,11 +15,10 @@ use Rattle.walk.specs.RowLaws.{set-rows-length, rom-rows-length}
 use Rattle.fw_parser.specs.declared.Settings.{Settings}
 use Rattle.fw_parser.specs.declared.SdrrInfo.{SdrrInfo}
 use Rattle.fw_parser.specs.declared.Opening.{Opening}
-use Rattle.fw_parser.specs.Opening.{Opened, refused, opened, openP, opening, setRowsLeft, romRowsLeft}
+use Rattle.fw_parser.specs.Opening.{Opened, refused, opened, opening, setRowsLeft, romRowsLeft}
 use Rattle.fw_parser.specs.Reply.{noReport, replyOf}
 use Rattle.fw_parser.specs.Sanity.{ServedSets, served-sets}
 use Rattle.fw_parser.specs.Fits.{Fits, opening-fits, opened-run, Front, overwritten-front}
-pub use Rattle.fw_parser.specs.Demand3.{Opens, Demand3, demand3}
 
 -- ---- what the statements of the code say
 
@@ -82,27 +80,3 @@ module _ (s : Settings) (sets roms x : List ℕ) where
             set-rows = rw e (overwritten-front (setRows ss) sets (setWidth * length ss) (set-rows-length ss) (f .0));
             rom-rows = rw e (overwritten-front (romRows (romsOf ss) names) roms (romWidth * length (romsOf ss)) (rom-rows-length (romsOf ss) names) (f .1));
           }
-
-  -- ---- demand 3
-
-  -- "opens", of which demand 3 speaks, is the number 0 of the code
-  pub number-0-opens : replied s sets roms x .number ≡ 0 → Opens o
-  unfolding replyOf
-  number-0-opens h = go o h (opening-fits (length sets) (length roms) s x)
-    where
-      go : (p : Opened) → replyOf p .number ≡ 0 → Fits (length sets) (length roms) p → Opens p
-      go (refused n) i f = absurd (f i)
-      go (opened r ss names) i f = tt
-
-  -- the whole of it, for every image that the code opens and every cut
-  pub cut-short : replied s sets roms x .number ≡ 0 → (k : ℕ) → Demand3 s sets roms x k
-  cut-short h k = demand3 s sets roms x (number-0-opens h) k
-
-  -- its first clause, as the code replies
-  pub reply-past : replied s sets roms x .number ≡ 0 → (k : ℕ) → reach (openP s (length sets) (length roms)) x ≤ k
-      → (replied s sets roms (take k x) ≡ replied s sets roms x)
-      × (setsAfter s sets roms (take k x) ≡ setsAfter s sets roms x)
-      × (romsAfter s sets roms (take k x) ≡ romsAfter s sets roms x)
-  reply-past h k l =
-      let d = cut-short h k in
-      (ap replyOf (d .report-past l), d .set-rows-past l, d .rom-rows-past l)

@@ -5,6 +5,8 @@ use Rattle.header.specs.Header.{noHeader}
 use Rattle.metadata.specs.declared.MetadataItem.{MetadataItem}
 use Rattle.extra_info.specs.ExtraInfo as extra
 use Rattle.pins.specs.Pins as pins
+use Rattle.board.specs.declared.Board.{Board}
+use Rattle.fw_parser.specs.declared.Settings.{Settings}
 use Rattle.fw_parser.specs.declared.SdrrInfo.{SdrrInfo}
 use Rattle.fw_parser.specs.declared.Opening.{Opening}
 use Rattle.fw_parser.specs.Opening.{Opened, opened}
@@ -29,3 +31,9 @@ refusedWith n = record { number = n; info = noReport }
 unfoldable pub replyOf : Opened → Opening
 replyOf (o.refused n) = refusedWith n
 replyOf (opened r ss names) = record { number = 0; info = r }
+
+-- ---- what later calls look at of a report, and where the image stands
+
+abbrev pub boardOf : Settings → SdrrInfo → Board
+boardOf s r =
+    record { «flash_base» = s .«flash_base»; «cs0_base» = s .«cs0_base»; line = r .fields .«stm_line»; pins = r .pins; served = r .«rom_sets» .served }

@@ -1,19 +1,20 @@
 // The opening of a board's image (lib.rs `parse_flash`).
+use board::Board;
 use extra_info::ExtraInfoItem;
 use header::SdrrInfoFields;
 use metadata::MetadataItem;
 use pins::PinsItem;
+use records::Records;
+use records::SetsSource;
 use text::Text;
-use window::Records;
-use window::SetsSource;
 ghost use mathlib.Core.Path.{_≡_};
 ghost use lib.ListN.{length};
 ghost use Rattle.prog.specs.Prog.{run};
 ghost use Rattle.text.specs.Text.{refused};
 ghost use Rattle.walk.specs.Names.{walkNamesP};
 ghost use Rattle.rom_rows.specs.Reply as rows;
-ghost use Rattle.fw_parser.specs.Opening.{beyondWindow, opening, setRowsLeft, romRowsLeft};
-ghost use Rattle.fw_parser.specs.Reply.{noReport, replyOf};
+ghost use Rattle.fw_parser.specs.Opening.{opening, setRowsLeft, romRowsLeft};
+ghost use Rattle.fw_parser.specs.Reply.{noReport, replyOf, boardOf};
 ghost use Rattle.fw_parser.specs.Parts.{walkOf, isShort, itemOf, reportWith};
 
 // Where the image stands: its base, the base for an Rp2350, and the header's offset.
@@ -45,16 +46,6 @@ pub struct SdrrInfo {
 pub struct Opening {
     pub number: u8,
     pub info: SdrrInfo,
-}
-
-// Either base plus the image's length exceeds 2^32. No sum of the two is made, so none can overflow.
-fn beyond_window(image: &[u8], settings: Settings) -> bool
-    ensures { λ r. ⌜ r ≡ beyondWindow settings (now (image .entry)) ⌝ }
-{
-    base::either(
-        4294967296 - (settings.flash_base as usize) < image.len(),
-        4294967296 - (settings.cs0_base as usize) < image.len(),
-    )
 }
 
 fn no_text() -> Text
@@ -170,7 +161,7 @@ pub fn parse_flash(
     ensures roms { λ r. ⌜ now («rom_rows» .exit) ≡ romRowsLeft (opening settings (length (now («set_rows» .entry))) (length (now («rom_rows» .entry))) (now (image .entry))) (now («rom_rows» .entry)) ⌝ }
 {
     let none = no_report();
-    if beyond_window(image, settings) {
+    if window::beyond_window(image, settings.flash_base, settings.cs0_base) {
         return Opening {
             number: 1,
             info: none,
@@ -186,8 +177,8 @@ pub fn parse_flash(
     let h = a.header;
     let fields = h.fields;
     let line = fields.stm_line;
-    let base = header::base_after(settings.flash_base, settings.cs0_base, line);
-    let records = window::read_records(image, base, h);
+    let base = window::base_after(settings.flash_base, settings.cs0_base, line);
+    let records = records::read_records(image, base, h);
     let source = records.sets;
     let number = walk_sets(image, base, fields, source, set_rows, rom_rows);
     let info = report(fields, records, number);
@@ -195,4 +186,21 @@ pub fn parse_flash(
         return Opening { number, info: none };
     }
     Opening { number: 0, info }
+}
+
+// What later calls look at of an opened board.
+pub fn board(settings: Settings, info: SdrrInfo) -> Board
+    ensures { λ r. ⌜ r ≡ boardOf settings info ⌝ }
+{
+    let fields = info.fields;
+    let line = fields.stm_line;
+    let pins = info.pins;
+    let sets = info.rom_sets;
+    Board {
+        flash_base: settings.flash_base,
+        cs0_base: settings.cs0_base,
+        line,
+        pins,
+        served: sets.served,
+    }
 }

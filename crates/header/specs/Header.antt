@@ -114,10 +114,6 @@ headerOf s =
 unfoldable pub headerP : ℕ → ℕ → Prog HeaderAnswer
 headerP flashBase infoOffset = fetch flashBase (flashBase + infoOffset) 64 (refused 2) λ s. done (headerOf s)
 
--- For Rp2350 the base becomes the CS0 base after the header.
-abbrev pub baseAfter : ℕ → ℕ → McuLine → ℕ
-baseAfter flashBase cs0Base line = pick (isRp2350 line) cs0Base flashBase
-
 -- "ROM sets and ROM infos": filenames from 0.5.1, or boot logging on
 abbrev pub hasFilenames : SdrrInfoFields → Bool
 hasFilenames f = from051 (f .version) || f .«boot_logging_enabled»

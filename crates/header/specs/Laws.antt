@@ -1,16 +1,16 @@
 -- The header: a failed read is number 2; its refusals in order; only its first 64 bytes count.
 -- Assumes nothing.
-use Prim.Native.Nat.{ℕ, _+_, _-_, _≤_, _<_}
+use Prim.Native.Nat.{ℕ, _+_, _≤_, _<_}
 use native.Mathlib.Omega.{arith}
-use native.Mathlib.Nat.{add-sub-cancel-left}
-use mathlib.Core.Path.{_≡_, refl, ap, _∙_}
+use mathlib.Core.Path.{_≡_, refl}
 use mathlib.Core.Bool.{true, false}
 use mathlib.Core.List.{List}
 use lib.Dec.{ltb}
-use lib.ListN.{length, take, drop}
+use lib.ListN.{length, take}
 use borrow.Author.Tests.{lt-ltb, le-ltb, eq-eqb, ne-eqb}
+use Rattle.window.specs.Window.{canRead, onFrom}
 use Rattle.le.specs.Le.{u16At, u32At, startsWith}
-use Rattle.prog.specs.Prog.{canRead, run}
+use Rattle.prog.specs.Prog.{run}
 use Rattle.prog.specs.Honest.{Honest, honesty}
 use Rattle.prog.specs.Record.{front-byte, front-short, front-starts, record-ended, record-onward}
 use Rattle.header.specs.declared.HeaderAnswer.{HeaderAnswer}
@@ -65,9 +65,6 @@ module _ (x : List ℕ) (flashBase infoOffset : ℕ) where
   unfolding headerP
   header-ended e = record-ended x flashBase (flashBase + infoOffset) 64 (refused 2) headerOf e
 
-  pub header-onward : canRead x flashBase (flashBase + infoOffset) 64 ≡ true
-      → run (headerP flashBase infoOffset) x ≡ headerOf (take (length x - infoOffset) (drop infoOffset x))
+  pub header-onward : canRead x flashBase (flashBase + infoOffset) 64 ≡ true → run (headerP flashBase infoOffset) x ≡ headerOf (onFrom x flashBase (flashBase + infoOffset))
   unfolding headerP
-  header-onward e =
-      record-onward x flashBase (flashBase + infoOffset) 64 (refused 2) headerOf e header-front
-      ∙ ap (λ (o : ℕ). headerOf (take (length x - o) (drop o x))) (add-sub-cancel-left flashBase infoOffset)
+  header-onward e = record-onward x flashBase (flashBase + infoOffset) 64 (refused 2) headerOf e header-front

@@ -5,9 +5,10 @@ use version::FirmwareVersion;
 ghost use mathlib.Core.Path.{_≡_};
 ghost use Prim.Native.Nat.{_≤_};
 ghost use lib.ListN.{length};
+ghost use Rattle.window.specs.Window.{baseAfter};
 ghost use Rattle.types.specs.Types.{lineOf, storageOf};
 ghost use Rattle.prog.specs.Prog.{run};
-ghost use Rattle.header.specs.Header.{versionOf, fourAt, eightAt, fieldsOf, extraPointer, wholeOf, noHeader, refused, headerOf, headerP, baseAfter, hasFilenames};
+ghost use Rattle.header.specs.Header.{versionOf, fourAt, eightAt, fieldsOf, extraPointer, wholeOf, noHeader, refused, headerOf, headerP, hasFilenames};
 
 const HEADER_SIZE: usize = 64;
 
@@ -225,23 +226,8 @@ pub fn retrieve_header(image: &[u8], flash_base: u32, info_offset: u32) -> Heade
     ensures { λ r. ⌜ r ≡ run (headerP «flash_base» «info_offset») (now (image .entry)) ⌝ }
 {
     let address = flash_base as u64 + info_offset as u64;
-    if !text::can_read(image, flash_base, address, HEADER_SIZE) {
+    if !window::can_read(image, flash_base, address, HEADER_SIZE) {
         return refuse(2);
     }
-    let at = info_offset as usize;
-    parse_and_validate_header(&image[at..])
-}
-
-// The base in force after the header: the CS0 base for Rp2350.
-pub fn base_after(flash_base: u32, cs0_base: u32, line: McuLine) -> u32
-    ensures { λ r. ⌜ r ≡ baseAfter «flash_base» «cs0_base» line ⌝ }
-{
-    match line {
-        McuLine::F401DE => flash_base,
-        McuLine::F405 => flash_base,
-        McuLine::F411 => flash_base,
-        McuLine::F446 => flash_base,
-        McuLine::F401BC => flash_base,
-        McuLine::Rp2350 => cs0_base,
-    }
+    parse_and_validate_header(window::image_from(image, flash_base, address))
 }

@@ -3,16 +3,15 @@
 use Prim.Native.Nat.{ℕ, _+_, _≤_}
 use native.Mathlib.Omega.{arith}
 use mathlib.Core.Path.{_≡_, refl, sym, ap, _∙_}
-use mathlib.Core.Bool.{Bool, true, false, not, _||_}
+use mathlib.Core.Bool.{Bool, true, false, not}
 use mathlib.Core.List.{List, [], _∷_}
 use lib.Dec.{ltb, eqb}
-use lib.ListN.{length}
 use borrow.Author.Tests.{ltb-false, eqb-true, eq-eqb}
 use Rattle.base.specs.Cases.{clash}
 use Rattle.base.specs.Choice.{pick}
+use Rattle.window.specs.Window.{baseAfter, beyondWindow}
 use Rattle.prog.specs.Prog.{run}
 use Rattle.prog.specs.Run.{run-map}
-use Rattle.header.specs.Header.{baseAfter}
 use Rattle.info.specs.Lent.{Lent}
 use Rattle.info.specs.Reads.{Bytes, noBytes, countNumber, RomRead, lengthOf, storedP, shownOf, finished, readP, Reply, replyOf, romRead, countAfter}
 
@@ -32,7 +31,7 @@ module _ (flashBase cs0Base : ℕ) (l : Lent) (x : List ℕ) where
   pub count-step : (count : ℕ) (r : RomRead) → romRead flashBase cs0Base l count r x .count ≡ count + acceptedLength (romRead flashBase cs0Base l count r x) r
   unfolding romRead
   count-step count r =
-      go (ltb 4294967296 (flashBase + length x) || ltb 4294967296 (cs0Base + length x)) (run (readP (baseAfter flashBase cs0Base (l .line)) l count r) x)
+      go (beyondWindow flashBase cs0Base x) (run (readP (baseAfter flashBase cs0Base (l .line)) l count r) x)
     where
       plain : (b : Bool) (n : ℕ) → pick b (count + n) count ≡ count + pick b n 0
       plain true n = refl
@@ -67,7 +66,7 @@ module _ (flashBase cs0Base : ℕ) (l : Lent) (x : List ℕ) where
   pub count-fits : (count : ℕ) (r : RomRead) → count ≤ 4294967295 → romRead flashBase cs0Base l count r x .count ≤ 4294967295
   unfolding romRead readP
   count-fits count r c =
-      go (ltb 4294967296 (flashBase + length x) || ltb 4294967296 (cs0Base + length x))
+      go (beyondWindow flashBase cs0Base x)
     where
       base : ℕ
       base = baseAfter flashBase cs0Base (l .line)

@@ -24,31 +24,32 @@ use Rattle.info.specs.declared.Valued.{Valued}
 abbrev pub unmangled : ℕ → Mangled
 unmangled n = record { number = n; value = 0 }
 
--- Set 0's ROM count and first type govern. 70: no pins. 71: no sets. 4: set 0's row, then unless 74 applies its first ROM row. Then 72 to 78.
-unfoldable pub mangleAddress : PinsItem → (served : ℕ) → (sets roms : List ℕ) → ℕ → SdrrCsSet → Mangled
-mangleAddress pins served sets roms address levels =
-    pick (not (eqb (pins .number) 0)) (unmangled 70)
-    (pick (eqb served 0) (unmangled 71)
-    (pick (not (hasSetRow sets 0)) (unmangled 4)
-    (pick (not (eqb (romCount sets 0) 0) && badRomRow roms (firstRom sets 0)) (unmangled 4)
-    (mangleCore (pins .pins) (romCount sets 0) (romTypeOf (typeWord roms (firstRom sets 0))) address levels))))
-
--- Document 01, "Mangling", in two steps that come to the same (`in-two` in Steps): what governs, found in the rows; then the mangling by it.
--- Where nothing governs, beside 70, 71 or 4 stand no ROMs and type number 0.
+-- Where nothing governs, beside the number stand no ROMs and type number 0.
 abbrev pub ungoverned : ℕ → GoverningSet
 ungoverned n = record { number = n; «rom_count» = 0; «rom_type» = SdrrRomType.Rom2316 }
 
-unfoldable pub governing : (pinsNumber served : ℕ) → (sets roms : List ℕ) → GoverningSet
-governing pinsNumber served sets roms =
-    pick (not (eqb pinsNumber 0)) (ungoverned 70)
-    (pick (eqb served 0) (ungoverned 71)
-    (pick (not (hasSetRow sets 0)) (ungoverned 4)
-    (pick (not (eqb (romCount sets 0) 0) && badRomRow roms (firstRom sets 0)) (ungoverned 4)
-    (record { number = 0; «rom_count» = romCount sets 0; «rom_type» = romTypeOf (typeWord roms (firstRom sets 0)) }))))
+-- a set has ROMs, and its first ROM row isn't among those lent or has a type above 33
+abbrev pub lacksFirstRom : (sets roms : List ℕ) → ℕ → Bool
+lacksFirstRom sets roms i = not (eqb (romCount sets i) 0) && badRomRow roms (firstRom sets i)
 
+-- What mangling goes by of a set: its ROM count and first type. 4: its row, then unless 74 applies its first ROM row.
+unfoldable pub governing : (sets roms : List ℕ) → ℕ → GoverningSet
+governing sets roms i =
+    pick (not (hasSetRow sets i)) (ungoverned 4)
+    (pick (lacksFirstRom sets roms i) (ungoverned 4)
+    (record { number = 0; «rom_count» = romCount sets i; «rom_type» = romTypeOf (typeWord roms (firstRom sets i)) }))
+
+-- "Set 0's ROM count and first type govern, whichever set is then read." 70: no pins. 71: no sets. Then 4.
+unfoldable pub governingSet0 : (pinsNumber served : ℕ) → (sets roms : List ℕ) → GoverningSet
+governingSet0 pinsNumber served sets roms = pick (not (eqb pinsNumber 0)) (ungoverned 70) (pick (eqb served 0) (ungoverned 71) (governing sets roms 0))
+
+-- mangling by what governs: 72 to 78
 unfoldable pub mangledBy : GoverningSet → SdrrPins → ℕ → SdrrCsSet → Mangled
 mangledBy g pins address levels =
     pick (not (eqb (g .number) 0)) (unmangled (g .number)) (mangleCore pins (g .«rom_count») (g .«rom_type») address levels)
+
+unfoldable pub mangleAddress : PinsItem → (served : ℕ) → (sets roms : List ℕ) → ℕ → SdrrCsSet → Mangled
+mangleAddress pins served sets roms address levels = mangledBy (governingSet0 (pins .number) served sets roms) (pins .pins) address levels
 
 -- 70: no pins. Then 79.
 unfoldable pub demangleByte : PinsItem → ℕ → Demangled

@@ -15,10 +15,9 @@ use Rattle.prog.specs.Prog.{Prog, done, run, mapP}
 use Rattle.prog.specs.Run.{run-done, run-map}
 use Rattle.prog.specs.Honest.{Honest, honest-done, honest-fetch, honest-pick, honest-map, honesty}
 use Rattle.types.specs.declared.SdrrCsSet.{SdrrCsSet}
-use Rattle.walk.specs.Rows.{setWidth, romWidth}
 use Rattle.mangle.specs.declared.Mangled.{Mangled}
 use Rattle.info.specs.declared.SdrrAddress.{SdrrAddress}
-use Rattle.info.specs.Lent.{Lent, firstRom, typeWord, setNumber, mangleAddress, demangleByte}
+use Rattle.info.specs.Lent.{Lent, firstRom, typeWord, setNumber, governing, governingSet0, mangledBy, mangleAddress, demangleByte}
 use Rattle.info.specs.Reads.{Bytes, noBytes, dataP, shownByte, RomRead, range, byte, physical, byteP, storedP, shownOf, countNumber, lengthOf, finished, readP}
 
 -- the same line, sets and types; pins the same unless they ended
@@ -55,12 +54,12 @@ byte-address l base set a x e = go (eqb (a .number) 0) refl e
 module _ {l m : Lent} (like : Like l m) where
   -- an accepted mangling has accepted pins
   mangle-pins : (address : ℕ) (levels : SdrrCsSet) → mangleAddress (l .pins) (l .served) (l .setWords) (l .romWords) address levels .number ≡ 0 → l .pins ≡ m .pins
-  unfolding mangleAddress
+  unfolding mangleAddress mangledBy governingSet0 governing
   mangle-pins address levels e =
       ⊎-elim (λ (h : l .pins .number ≡ 2). absurd (let z : _≡_ {A = ℕ} 70 0 = rw (ne-eqb (l .pins .number) 0 (λ (f : l .pins .number ≡ 0). omega arith)) at e in omega arith)) (λ h. h) (like .pins)
 
   mangle-like : (address : ℕ) (levels : SdrrCsSet) → mangleAddress (l .pins) (l .served) (l .setWords) (l .romWords) address levels .number ≡ 0 → mangleAddress (l .pins) (l .served) (l .setWords) (l .romWords) address levels ≡ mangleAddress (m .pins) (m .served) (m .setWords) (m .romWords) address levels
-  unfolding mangleAddress
+  unfolding mangleAddress mangledBy governingSet0 governing
   mangle-like address levels e =
       let p = mangle-pins address levels e in
       let t = like .types (firstRom (l .setWords) 0) in

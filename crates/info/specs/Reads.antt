@@ -1,12 +1,12 @@
 -- Document 01, "ROM data" and the byte reads.
 use Prim.Native.Nat.{ℕ, _+_}
-use mathlib.Core.Bool.{Bool, true, false, not, _||_}
+use mathlib.Core.Bool.{Bool, true, false, not}
 use mathlib.Core.List.{List, [], _∷_}
 use lib.Dec.{ltb, eqb}
-use lib.ListN.{length, getD}
+use lib.ListN.{getD}
 use Rattle.base.specs.Choice.{pick}
+use Rattle.window.specs.Window.{baseAfter, beyondWindow}
 use Rattle.prog.specs.Prog.{Prog, done, fetch, mapP, run}
-use Rattle.header.specs.Header.{baseAfter}
 use Rattle.types.specs.declared.SdrrCsSet.{SdrrCsSet}
 use Rattle.mangle.specs.declared.Mangled.{Mangled}
 use Rattle.mangle.specs.declared.Demangled.{Demangled}
@@ -90,10 +90,10 @@ pub record Reply : Type 0 where
 abbrev pub replyOf : ℕ → RomRead → Bytes → Reply
 replyOf count r b = record { number = b .number; bytes = b .bytes; count = pick (eqb (b .number) 0) (count + lengthOf r) count }
 
--- 1: either base plus image length exceeds 2^32, before anything else
+-- 1: the window check, before anything else
 unfoldable pub romRead : (flashBase cs0Base : ℕ) → Lent → ℕ → RomRead → List ℕ → Reply
 romRead flashBase cs0Base l count r x =
-    pick (ltb 4294967296 (flashBase + length x) || ltb 4294967296 (cs0Base + length x)) (record { number = 1; bytes = []; count = count })
+    pick (beyondWindow flashBase cs0Base x) (record { number = 1; bytes = []; count = count })
     (replyOf count r (run (readP (baseAfter flashBase cs0Base (l .line)) l count r) x))
 
 -- what the lent buffer holds afterwards: a refusal changes no byte

@@ -5,7 +5,7 @@ use mathlib.Core.List.{List, [], _∷_}
 use lib.Dec.{ltb, leb, eqb}
 use lib.ListN.{length, drop}
 use Rattle.base.specs.Choice.{pick}
-use Rattle.walk.specs.Rows.{romWidth}
+use Rattle.rows.specs.LentRows.{romWidth}
 use Rattle.info.specs.declared.Valued.{Valued}
 use Rattle.info.specs.Lent.{hasSetRow, firstRom, romCount, sizeOf, serveOf, unvalued}
 

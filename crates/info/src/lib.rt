@@ -6,8 +6,7 @@ use pins::SdrrPins;
 use types::SdrrCsSet;
 use types::SdrrRomType;
 ghost use mathlib.Core.Path.{_≡_};
-ghost use Rattle.info.specs.Lent.{unmangled, ungoverned, governing, mangledBy, mangleAddress, demangleByte};
-ghost use Rattle.info.specs.Steps.{lacksFirstRom};
+ghost use Rattle.info.specs.Lent.{unmangled, ungoverned, lacksFirstRom, governing, governingSet0, mangledBy, mangleAddress, demangleByte};
 
 // An address in a set: a raw offset, or a logical address with its levels.
 pub enum SdrrAddress {
@@ -21,7 +20,7 @@ pub struct Valued {
     pub value: u32,
 }
 
-// What mangling goes by of the rows: set 0's ROM count and first type; or 70, 71 or 4, with none.
+// What mangling goes by of the rows: a set's ROM count and first type; or 70, 71 or 4, with none.
 pub struct GoverningSet {
     pub number: u8,
     pub rom_count: u32,
@@ -34,12 +33,12 @@ fn unmangled_by(number: u8) -> Mangled
     Mangled { number, value: 0 }
 }
 
-// Whether set 0 has ROMs and its first ROM row can't be used.
-fn lacks_first_rom(set_rows: &[u32], rom_rows: &[u32]) -> bool
-    ensures { λ r. ⌜ r ≡ lacksFirstRom (now («set_rows» .entry)) (now («rom_rows» .entry)) ⌝ }
+// Whether a set has ROMs and its first ROM row can't be used.
+fn lacks_first_rom(set_rows: &[u32], rom_rows: &[u32], set: u32) -> bool
+    ensures { λ r. ⌜ r ≡ lacksFirstRom (now («set_rows» .entry)) (now («rom_rows» .entry)) «set» ⌝ }
 {
-    let count = rows::set_word(set_rows, 0, 3);
-    let first = rows::set_word(set_rows, 0, 2);
+    let count = rows::set_word(set_rows, set, 3);
+    let first = rows::set_word(set_rows, set, 2);
     base::both(count != 0, rows::is_bad_rom_row(rom_rows, first))
 }
 
@@ -53,8 +52,33 @@ fn ungoverned_by(number: u8) -> GoverningSet
     }
 }
 
-pub fn governing(pins_number: u8, served: u32, set_rows: &[u32], rom_rows: &[u32]) -> GoverningSet
-    ensures { λ r. ⌜ r ≡ governing «pins_number» served (now («set_rows» .entry)) (now («rom_rows» .entry)) ⌝ }
+// A set as mangling goes by it, or 4.
+pub fn governing(set_rows: &[u32], rom_rows: &[u32], set: u32) -> GoverningSet
+    ensures { λ r. ⌜ r ≡ governing (now («set_rows» .entry)) (now («rom_rows» .entry)) «set» ⌝ }
+{
+    if !rows::has_set_row(set_rows, set) {
+        return ungoverned_by(4);
+    }
+    if lacks_first_rom(set_rows, rom_rows, set) {
+        return ungoverned_by(4);
+    }
+    let rom_count = rows::set_word(set_rows, set, 3);
+    let rom_type = rows::rom_type(rom_rows, rows::set_word(set_rows, set, 2));
+    GoverningSet {
+        number: 0,
+        rom_count,
+        rom_type,
+    }
+}
+
+// Set 0 governs: 70 and 71 before its rows are looked at.
+pub fn governing_set_0(
+    pins_number: u8,
+    served: u32,
+    set_rows: &[u32],
+    rom_rows: &[u32],
+) -> GoverningSet
+    ensures { λ r. ⌜ r ≡ governingSet0 «pins_number» served (now («set_rows» .entry)) (now («rom_rows» .entry)) ⌝ }
 {
     if pins_number != 0 {
         return ungoverned_by(70);
@@ -62,19 +86,7 @@ pub fn governing(pins_number: u8, served: u32, set_rows: &[u32], rom_rows: &[u32
     if served == 0 {
         return ungoverned_by(71);
     }
-    if !rows::has_set_row(set_rows, 0) {
-        return ungoverned_by(4);
-    }
-    if lacks_first_rom(set_rows, rom_rows) {
-        return ungoverned_by(4);
-    }
-    let rom_count = rows::set_word(set_rows, 0, 3);
-    let rom_type = rows::rom_type(rom_rows, rows::set_word(set_rows, 0, 2));
-    GoverningSet {
-        number: 0,
-        rom_count,
-        rom_type,
-    }
+    governing(set_rows, rom_rows, 0)
 }
 
 pub fn mangle_by(set: GoverningSet, pins: SdrrPins, address: u32, cs_set: SdrrCsSet) -> Mangled
@@ -98,7 +110,7 @@ pub fn mangle_address(
 ) -> Mangled
     ensures { λ r. ⌜ r ≡ mangleAddress pins served (now («set_rows» .entry)) (now («rom_rows» .entry)) address «cs_set» ⌝ }
 {
-    let g = governing(pins.number, served, set_rows, rom_rows);
+    let g = governing_set_0(pins.number, served, set_rows, rom_rows);
     let p = pins.pins;
     mangle_by(g, p, address, cs_set)
 }

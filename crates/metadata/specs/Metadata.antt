@@ -6,7 +6,7 @@ use lib.Dec.{ltb, eqb}
 use lib.ListN.{length}
 use Rattle.base.specs.Choice.{pick}
 use Rattle.le.specs.Le.{u8At, u32At, startsWith}
-use Rattle.prog.specs.Prog.{Prog, done, fetch}
+use Rattle.prog.specs.Prog.{Prog, recordP}
 use Rattle.metadata.specs.declared.MetadataAnswer.{MetadataAnswer}
 
 -- "ONEROM_METADATA" and NUL
@@ -28,4 +28,4 @@ metadataOf s =
 
 -- 3: below base. 2: ended.
 unfoldable pub metadataP : ℕ → ℕ → Prog MetadataAnswer
-metadataP base pointer = pick (ltb pointer base) (done (refused 3)) (fetch base pointer 256 (refused 2) λ s. done (metadataOf s))
+metadataP base pointer = recordP base pointer 256 refused metadataOf

@@ -57,12 +57,9 @@ pub fn parse_metadata(data: &[u8]) -> MetadataAnswer
 pub fn read_one_rom_metadata_header_info(image: &[u8], base: u32, ptr: u32) -> MetadataAnswer
     ensures { λ r. ⌜ r ≡ run (metadataP base ptr) (now (image .entry)) ⌝ }
 {
-    if ptr < base {
-        return refuse(3);
+    let number = window::pointer_number(image, base, ptr, METADATA_SIZE);
+    if number != 0 {
+        return refuse(number);
     }
-    if !text::can_read(image, base, ptr as u64, METADATA_SIZE) {
-        return refuse(2);
-    }
-    let at = (ptr - base) as usize;
-    parse_metadata(&image[at..])
+    parse_metadata(window::image_from(image, base, ptr as u64))
 }

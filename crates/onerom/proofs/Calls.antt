@@ -15,10 +15,10 @@ use Rattle.mangle.specs.declared.Demangled.{Demangled}
 use Rattle.info.specs.declared.SdrrAddress.{SdrrAddress}
 use Rattle.info.specs.declared.Valued.{Valued}
 use Rattle.info.specs.declared.GoverningSet.{GoverningSet}
-use Rattle.info.specs.Lent.{governing, mangledBy, demangleByte}
+use Rattle.info.specs.Lent.{governingSet0, mangledBy, demangleByte}
 use Rattle.info.specs.Steps.{in-two}
 use Rattle.info.specs.Reads.{range, byte, Reply, romRead, bufferLeft}
-use Rattle.rom_reads.specs.declared.Board.{Board}
+use Rattle.board.specs.declared.Board.{Board}
 use Rattle.rom_reads.specs.declared.Counted.{Counted}
 use Rattle.rom_reads.specs.declared.ByteRead.{ByteRead}
 use Rattle.rom_reads.specs.Calls.{lentBy, countedOf, byteOf}
@@ -38,12 +38,12 @@ pub kept-value : (n v b : ℕ) → (n ≡ 0 → ⊥) → b ≡ valueAfter n v b
 kept-value n v b h = rw (ne-eqb n 0 h)
 
 module _ (number romPins : ℕ) (addr control : List ℕ) (served : ℕ) (sets roms : List ℕ) (address : ℕ) (levels : List ℕ) where
-  pub mangled : (p : SdrrPins) (g : GoverningSet) (s : SdrrCsSet) (r : Mangled) → p ≡ pinsFrom romPins eightZeros addr control → g ≡ governing number served sets roms → s ≡ levelsFrom levels
+  pub mangled : (p : SdrrPins) (g : GoverningSet) (s : SdrrCsSet) (r : Mangled) → p ≡ pinsFrom romPins eightZeros addr control → g ≡ governingSet0 number served sets roms → s ≡ levelsFrom levels
       → r ≡ mangledBy g p address s → r ≡ mangleCall number romPins addr control served sets roms address levels
   unfolding mangleCall
   mangled p g s r e f h i =
       i ∙ (ap (λ (k : GoverningSet). mangledBy k p address s) f
-      ∙ (ap₂ (λ (q : SdrrPins) (t : SdrrCsSet). mangledBy (governing number served sets roms) q address t) e h
+      ∙ (ap₂ (λ (q : SdrrPins) (t : SdrrCsSet). mangledBy (governingSet0 number served sets roms) q address t) e h
       ∙ sym (in-two (pinsItem number (pinsFrom romPins eightZeros addr control)) served sets roms address (levelsFrom levels))))
 
 pub demangled : (number stored : ℕ) (d : List ℕ) (p : SdrrPins) (i : PinsItem) (r : Demangled)

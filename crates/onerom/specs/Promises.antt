@@ -9,9 +9,9 @@ use mathlib.Core.Path.{_≡_, refl, sym, ap, _∙_}
 use mathlib.Core.Bool.{Bool, true, false}
 use mathlib.Core.List.{List, []}
 use lib.ListN.{length, take}
+use Rattle.window.specs.Window.{baseAfter}
 use Rattle.types.specs.declared.McuLine.{McuLine}
 use Rattle.text.specs.declared.Text.{Text}
-use Rattle.header.specs.Header.{baseAfter}
 use Rattle.pins.specs.declared.PinsItem.{PinsItem}
 use Rattle.walk.specs.Walk.{RomSet, romsOf}
 use Rattle.walk.specs.Rows.{setRows, romRows, overwritten}
@@ -23,8 +23,9 @@ use Rattle.rom_reads.specs.Promises.{refused-changes-nothing}
 use Rattle.fw_parser.specs.declared.Settings.{Settings}
 use Rattle.fw_parser.specs.declared.SdrrInfo.{SdrrInfo}
 use Rattle.fw_parser.specs.Opening.{Opened, opened, opening}
-use Rattle.fw_parser.specs.FirstRead.{lentOf, FirstRead}
-use Rattle.fw_parser.specs.Demand3.{Opens, Demand3, demand3}
+use Rattle.cut_short.specs.FirstRead.{lentOf, FirstRead}
+use Rattle.cut_short.specs.Demand3.{Opens, Demand3}
+use Rattle.cut_short.specs.Laws.Proof.{demand3}
 use Rattle.c_board.specs.Board.{addressFrom}
 use Rattle.c_report.specs.declared.OneromReport.{OneromReport}
 use Rattle.c_report.specs.Report.{reportOut, boardIn}

@@ -26,7 +26,7 @@ pub extern "C" fn onerom_runtime(record: &[u8], ram_base: u32, words: &mut [u32;
 fn string_at(image: &[u8], base: u32, pointer: u32) -> text::Text
     ensures { λ r. ⌜ r ≡ stringCall base pointer (now (image .entry)) ⌝ }
 {
-    if 4294967296 - (base as usize) < image.len() {
+    if window::past_window(image, base) {
         return text::Text {
             number: 1,
             offset: 0,
@@ -67,7 +67,7 @@ pub extern "C" fn onerom_mangle(
 {
     let pins = c_board::pins_from(rom_pins, [0, 0, 0, 0, 0, 0, 0, 0], *addr, *control);
     let set = c_board::levels_from(*levels);
-    let g = info::governing(pins_number, served, set_rows, rom_rows);
+    let g = info::governing_set_0(pins_number, served, set_rows, rom_rows);
     let m = info::mangle_by(g, pins, address, set);
     if m.number != 0 {
         return m.number as u32;

@@ -8,7 +8,7 @@ use Rattle.base.specs.Choice.{pick}
 use Rattle.le.specs.Le.{u8At}
 use Rattle.types.specs.declared.SdrrMcuPort.{SdrrMcuPort}
 use Rattle.types.specs.Types.{portOf}
-use Rattle.prog.specs.Prog.{Prog, done, fetch}
+use Rattle.prog.specs.Prog.{Prog, recordP}
 use Rattle.pins.specs.declared.SdrrPins.{SdrrPins}
 use Rattle.pins.specs.declared.PinsItem.{PinsItem}
 
@@ -113,4 +113,4 @@ pinsOf s =
 
 -- 3: below base. 2: ended.
 unfoldable pub pinsP : ℕ → ℕ → Prog PinsItem
-pinsP base pointer = pick (ltb pointer base) (done (refused 3)) (fetch base pointer 88 (refused 2) λ s. done (pinsOf s))
+pinsP base pointer = recordP base pointer 88 refused pinsOf

@@ -244,12 +244,9 @@ pub fn parse_pins(data: &[u8]) -> PinsItem
 pub fn read_pins(image: &[u8], base: u32, ptr: u32) -> PinsItem
     ensures { λ r. ⌜ r ≡ run (pinsP base ptr) (now (image .entry)) ⌝ }
 {
-    if ptr < base {
-        return refuse(3);
+    let number = window::pointer_number(image, base, ptr, PINS_SIZE);
+    if number != 0 {
+        return refuse(number);
     }
-    if !text::can_read(image, base, ptr as u64, PINS_SIZE) {
-        return refuse(2);
-    }
-    let at = (ptr - base) as usize;
-    parse_pins(&image[at..])
+    parse_pins(window::image_from(image, base, ptr as u64))
 }

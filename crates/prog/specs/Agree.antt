@@ -7,8 +7,9 @@ use mathlib.Core.List.{List}
 use lib.ListN.{length, getD, take, drop, length-take, length-drop}
 use lib.Seq.{ext-getD}
 use Rattle.base.specs.Cases.{clash}
+use Rattle.window.specs.Laws.{Inside, part-at}
 use Rattle.prog.specs.Prog.{Answer, failed, got, Reads, Prog, done, read, unshown, answer, run, Span, taken, trace, triedShown, Takes}
-use Rattle.prog.specs.Read.{Inside, answer-inside, inside-or-failed, part-at}
+use Rattle.prog.specs.Read.{answer-inside, inside-or-failed}
 
 -- the program does the same on two images, in all that is shown
 pub record Alike {A : Type 0} (p : Prog A) (x y : List ℕ) : Type 0 where

@@ -3,7 +3,8 @@ use Prim.Native.Nat.{ℕ}
 use mathlib.Core.Path.{_≡_, refl}
 use mathlib.Core.Bool.{true, false}
 use mathlib.Core.List.{List, [], _∷_}
-use Rattle.prog.specs.Prog.{Prog, done, fetch, readsOf, aside, canRead, answer, run, trace, looked, tried, triedShown, endOf, reach}
+use Rattle.window.specs.Window.{canRead}
+use Rattle.prog.specs.Prog.{Prog, done, fetch, readsOf, aside, answer, run, trace, looked, tried, triedShown, endOf, reach}
 
 -- two bytes at base 100
 abbrev pair : List ℕ

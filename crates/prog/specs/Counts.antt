@@ -7,7 +7,8 @@ use mathlib.Core.Bool.{Bool, true, false}
 use mathlib.Core.List.{List}
 use lib.ListN.{take, drop}
 use Rattle.base.specs.Choice.{pick}
-use Rattle.prog.specs.Prog.{Prog, done, read, unshown, _>>=_, mapP, fetch, aside, canRead, answer, run, tried, triedShown}
+use Rattle.window.specs.Window.{canRead}
+use Rattle.prog.specs.Prog.{Prog, done, read, unshown, _>>=_, mapP, fetch, aside, answer, run, tried, triedShown}
 use Rattle.prog.specs.Run.{run-done, run-got, run-failed, run-bind, run-map, run-aside, tried-done, tried-got, tried-failed, tried-bind, tried-map, tried-aside}
 
 -- shown reads are among those tried

@@ -7,8 +7,9 @@ use mathlib.Core.Logic.{_⊎_, inl, inr, ⊎-elim}
 use mathlib.Core.List.{List}
 use lib.ListN.{length, take, length-take}
 use lib.Seq.{getD-take}
+use Rattle.window.specs.Laws.{Inside}
 use Rattle.prog.specs.Prog.{failed, Prog, done, read, unshown, answer, run, Span, taken, trace, endOf, reach}
-use Rattle.prog.specs.Read.{Inside, answer-inside, inside-or-failed}
+use Rattle.prog.specs.Read.{answer-inside, inside-or-failed}
 use Rattle.prog.specs.Reach.{end-here, end-there, reach-length}
 use Rattle.prog.specs.Agree.{Alike, alike-done, alike-read, alike-unshown, same-answer}
 

@@ -1,11 +1,11 @@
 -- Read programs over an image, and how they run: what a definition of a reader means.
 use Prim.Native.Nat.{ℕ, suc, _+_, _-_, _≤_, _<_, max}
 use mathlib.Core.Logic.{_⊎_}
-use mathlib.Core.Bool.{Bool, true, false, _&&_}
 use mathlib.Core.List.{List, [], _∷_}
-use lib.Dec.{leb}
-use lib.ListN.{length, take, drop}
-pub use Rattle.base.specs.Choice.{pick}
+use lib.Dec.{ltb}
+use lib.ListN.{take, drop}
+use Rattle.base.specs.Choice.{pick}
+use Rattle.window.specs.Window.{canRead}
 
 -- ---- programs
 
@@ -51,6 +51,10 @@ orElse e k (got bs) = k bs
 abbrev pub fetch : {A : Type 0} → (base a n : ℕ) → A → (List ℕ → Prog A) → Prog A
 fetch base a n e k = read base a n (orElse e k)
 
+-- a record of n bytes at a pointer. 3: below base. 2: ended.
+abbrev pub recordP : {A : Type 0} → (base pointer n : ℕ) → (refused : ℕ → A) → (List ℕ → A) → Prog A
+recordP base pointer n refused recOf = pick (ltb pointer base) (done (refused 3)) (fetch base pointer n (refused 2) λ s. done (recOf s))
+
 -- one row of reads after another
 unfoldable pub andThen : Reads → Reads → Reads
 andThen noMore s = s
@@ -67,12 +71,7 @@ readsOf (unshown r p) = andThen r (readsOf p)
 abbrev pub aside : {A B : Type 0} → Prog B → Prog A → Prog A
 aside p q = unshown (readsOf p) q
 
--- ---- a read (01, "Window")
-
--- a read of n bytes at a succeeds exactly if base ≤ a, a ≤ 2^32 − 1 and a + n ≤ base + the image's length,
--- in whole numbers; so too where n is 0
-unfoldable pub canRead : List ℕ → ℕ → ℕ → ℕ → Bool
-canRead x base a n = leb base a && (leb a 4294967295 && leb (a + n) (base + length x))
+-- ---- a read
 
 -- what a read gives on the image x: n bytes from offset a − base, where it succeeds
 unfoldable pub answer : List ℕ → ℕ → ℕ → ℕ → Answer

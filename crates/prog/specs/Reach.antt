@@ -8,8 +8,10 @@ use mathlib.Core.Bool.{true, false}
 use mathlib.Core.List.{List, [], _∷_, _++_}
 use lib.ListN.{length, take, drop}
 use Rattle.base.specs.Cases.{clash}
-use Rattle.prog.specs.Prog.{Answer, failed, got, Prog, done, read, unshown, _>>=_, also, mapP, fetch, aside, canRead, answer, run, Span, taken, trace, Takes, endOf, reach}
-use Rattle.prog.specs.Read.{Inside, inside-or-failed}
+use Rattle.window.specs.Window.{canRead}
+use Rattle.window.specs.Laws.{Inside}
+use Rattle.prog.specs.Prog.{Answer, failed, got, Prog, done, read, unshown, _>>=_, also, mapP, fetch, aside, answer, run, Span, taken, trace, Takes, endOf, reach}
+use Rattle.prog.specs.Read.{inside-or-failed}
 use Rattle.prog.specs.Run.{trace-done, trace-failed, trace-got, trace-bind, trace-map, trace-also, trace-aside}
 
 -- ---- the end of the bytes taken

@@ -5,14 +5,16 @@ use native.Mathlib.Nat.{not-suc-le-zero, le-of-suc-le-suc}
 use mathlib.Core.Path.{_≡_, refl, ap, sym, _∙_}
 use mathlib.Core.Bool.{Bool, true, false}
 use mathlib.Core.List.{List, [], _∷_}
-use lib.Dec.{ltb}
+use lib.Dec.{ltb, eqb}
 use lib.ListN.{length, getD, take, drop, length-take, List·getD-eq-default}
 use lib.Seq.{getD-take, length-take-le, take-all}
-use borrow.Author.Tests.{lt-ltb, le-ltb, ltb-true, ltb-false}
-use Rattle.le.specs.Le.{startsWith}
+use borrow.Author.Tests.{le-ltb, ltb-true, ltb-false, eq-eqb, ne-eqb}
 use Rattle.base.specs.Choice.{pick}
-use Rattle.prog.specs.Prog.{Prog, done, fetch, canRead, run}
-use Rattle.prog.specs.Read.{onward}
+use Rattle.base.specs.Cases.{cases}
+use Rattle.le.specs.Le.{startsWith}
+use Rattle.window.specs.Window.{canRead, onFrom, pointerNumber}
+use Rattle.window.specs.Laws.{pointer-3, pointer-2, pointer-0}
+use Rattle.prog.specs.Prog.{done, fetch, recordP, run}
 use Rattle.prog.specs.Run.{run-done, run-got, run-failed}
 
 -- ---- of a list's first n bytes: a byte, the test of the length, the magic
@@ -40,29 +42,34 @@ front-starts (suc n) (a ∷ s) (b ∷ m) h = rw (front-starts n s m (le-of-suc-l
 
 -- ---- a record whose definition is the same of its first n bytes as of all from its address on
 
+-- at an address
 module _ {A : Type 0} (x : List ℕ) (base a n : ℕ) (ended : A) (recOf : List ℕ → A) where
-  abbrev pub recordP : Prog A
-  recordP = fetch base a n ended λ s. done (recOf s)
-
-  pub record-ended : canRead x base a n ≡ false → run recordP x ≡ ended
+  pub record-ended : canRead x base a n ≡ false → run (fetch base a n ended λ s. done (recOf s)) x ≡ ended
   record-ended e = run-failed x base a n ended _ e
 
-  pub record-onward : canRead x base a n ≡ true → ((s : List ℕ) → recOf (take n s) ≡ recOf s)
-      → run recordP x ≡ recOf (take (length x - (a - base)) (drop (a - base) x))
-  record-onward e front =
-      run-got x base a n ended _ e ∙ run-done x (recOf (take n (drop (a - base) x))) ∙ front (drop (a - base) x) ∙ ap recOf (sym (onward (a - base) x))
+  pub record-onward : canRead x base a n ≡ true → ((s : List ℕ) → recOf (take n s) ≡ recOf s) → run (fetch base a n ended λ s. done (recOf s)) x ≡ recOf (onFrom x base a)
+  unfolding onFrom
+  record-onward e front = run-got x base a n ended _ e ∙ run-done x (recOf (take n (drop (a - base) x))) ∙ front (drop (a - base) x)
 
-  -- the same where a pointer below base is refused before the read
-  module _ (below : A) where
-    abbrev pub pointerP : Prog A
-    pointerP = pick (ltb a base) (done below) recordP
+-- at a pointer, whose number says how it is refused
+module _ {A : Type 0} (x : List ℕ) (base pointer n : ℕ) (refused : ℕ → A) (recOf : List ℕ → A) where
+  abbrev number : ℕ
+  number = pointerNumber x base pointer n
 
-    pub pointer-below : a < base → run pointerP x ≡ below
-    pointer-below h = rw (lt-ltb a base h) (run-done x below)
+  by-number : ((s : List ℕ) → recOf (take n s) ≡ recOf s) → run (recordP base pointer n refused recOf) x ≡ pick (eqb number 0) (recOf (onFrom x base pointer)) (refused number)
+  by-number front =
+      cases (ltb pointer base)
+      (λ e. rw (e, pointer-3 x base pointer n (ltb-true pointer base e)) (run-done x (refused 3)))
+      (λ e.
+      let from = ltb-false pointer base e in
+      cases (canRead x base pointer n)
+      (λ f. rw (e, pointer-0 x base pointer n from f) (record-onward x base pointer n (refused 2) recOf f front))
+      (λ f. rw (e, pointer-2 x base pointer n from f) (record-ended x base pointer n (refused 2) recOf f)))
 
-    pub pointer-ended : base ≤ a → canRead x base a n ≡ false → run pointerP x ≡ ended
-    pointer-ended h e = rw (le-ltb a base h) (record-ended e)
+  -- as the code has it: k is the pointer's number, s the image from there on, r the reply
+  module _ (front : (s : List ℕ) → recOf (take n s) ≡ recOf s) (k : ℕ) (e : k ≡ number) (r : A) where
+    pub pointer-refused : (k ≡ 0 → ⊥) → r ≡ refused k → r ≡ run (recordP base pointer n refused recOf) x
+    pointer-refused h i = i ∙ sym (by-number front ∙ rw (← e, ne-eqb k 0 h))
 
-    pub pointer-onward : base ≤ a → canRead x base a n ≡ true → ((s : List ℕ) → recOf (take n s) ≡ recOf s)
-        → run pointerP x ≡ recOf (take (length x - (a - base)) (drop (a - base) x))
-    pointer-onward h e front = rw (le-ltb a base h) (record-onward e front)
+    pub pointer-read : k ≡ 0 → (s : List ℕ) → s ≡ onFrom x base pointer → r ≡ recOf s → r ≡ run (recordP base pointer n refused recOf) x
+    pointer-read h s f i = i ∙ rw f (sym (by-number front ∙ rw (← e, eq-eqb k 0 h)))

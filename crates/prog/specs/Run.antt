@@ -6,8 +6,10 @@ use mathlib.Core.Bool.{Bool, true, false}
 use mathlib.Core.List.{List, [], _∷_, _++_, append-nil}
 use lib.ListN.{take, drop}
 use Rattle.base.specs.Choice.{pick}
-use Rattle.prog.specs.Prog.{Answer, failed, got, Reads, noMore, look, Prog, done, read, unshown, _>>=_, also, mapP, orElse, fetch, andThen, readsOf, aside, canRead, answer, run, Span, taken, trace, looked, tried, triedShown}
-use Rattle.prog.specs.Read.{Inside, inside-true, answer-true, answer-false}
+use Rattle.window.specs.Window.{canRead}
+use Rattle.window.specs.Laws.{Inside, inside-true}
+use Rattle.prog.specs.Prog.{Answer, failed, got, Reads, noMore, look, Prog, done, read, unshown, _>>=_, also, mapP, orElse, fetch, andThen, readsOf, aside, answer, run, Span, taken, trace, looked, tried, triedShown}
+use Rattle.prog.specs.Read.{answer-true, answer-false}
 
 -- ---- a program that only gives its answer; a test
 

@@ -4,7 +4,7 @@ use mathlib.Core.List.{List}
 use lib.ListN.{getD}
 use Rattle.info.specs.Lent.{Lent}
 use Rattle.info.specs.Reads.{Reply}
-use Rattle.rom_reads.specs.declared.Board.{Board}
+use Rattle.board.specs.declared.Board.{Board}
 use Rattle.rom_reads.specs.declared.Counted.{Counted}
 use Rattle.rom_reads.specs.declared.ByteRead.{ByteRead}
 

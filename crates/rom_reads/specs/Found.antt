@@ -1,11 +1,11 @@
 -- ROM data and the byte reads as the code goes about them: where a set's bytes stand in the image, then the count, then demangling.
 use Prim.Native.Nat.{ℕ, _+_, _-_}
-use mathlib.Core.Bool.{Bool, not, _||_}
+use mathlib.Core.Bool.{not}
 use mathlib.Core.List.{List}
 use lib.Dec.{ltb, eqb}
 use lib.ListN.{getD}
 use Rattle.base.specs.Choice.{pick}
-use Rattle.prog.specs.Prog.{canRead}
+use Rattle.window.specs.Window.{canRead}
 use Rattle.pins.specs.declared.PinsItem.{PinsItem}
 use Rattle.mangle.specs.declared.Mangled.{Mangled}
 use Rattle.info.specs.declared.SdrrAddress.{SdrrAddress}
@@ -13,10 +13,6 @@ use Rattle.info.specs.Lent.{setNumber, dataPointer, sizeOf, mangleAddress, dema
 use Rattle.rom_reads.specs.declared.SetData.{SetData}
 use Rattle.rom_reads.specs.declared.Found.{Found}
 use Rattle.rom_reads.specs.declared.ByteRead.{ByteRead}
-
--- 1: either base plus image length exceeds 2^32
-abbrev pub beyond : (flashBase cs0Base n : ℕ) → Bool
-beyond flashBase cs0Base n = ltb 4294967296 (flashBase + n) || ltb 4294967296 (cs0Base + n)
 
 abbrev pub setData : (served : ℕ) → List ℕ → ℕ → SetData
 setData served sets set = record { number = setNumber served sets set; pointer = dataPointer sets set; size = sizeOf sets set }

@@ -11,15 +11,15 @@ use lib.ListN.{length, getD, take, drop, length-drop}
 use lib.Seq.{length-take-le}
 use borrow.Author.Tests.{ne-eqb}
 use Rattle.base.specs.Cases.{cases}
-use Rattle.header.specs.Header.{baseAfter}
+use Rattle.window.specs.Window.{baseAfter, beyondWindow}
 use Rattle.info.specs.declared.SdrrAddress.{SdrrAddress}
 use Rattle.info.specs.Lent.{Lent, dataPointer, sizeOf, demangleByte}
 use Rattle.info.specs.Reads.{RomRead, range, byte, physical, Reply, romRead, bufferLeft, storedP, finished, readP, countAfter}
 use Rattle.info.specs.History.{acceptedLengths, count-step, count-sums, count-fits}
-use Rattle.rom_reads.specs.declared.Board.{Board}
+use Rattle.board.specs.declared.Board.{Board}
 use Rattle.rom_reads.specs.declared.ByteRead.{ByteRead}
 use Rattle.rom_reads.specs.Calls.{lentBy, byteOf}
-use Rattle.rom_reads.specs.Found.{beyond, setData, foundOf, storedByte, shownFrom}
+use Rattle.rom_reads.specs.Found.{setData, foundOf, storedByte, shownFrom}
 use Rattle.rom_reads.specs.Steps.{read-beyond, found-stands, found-inside, data-accepted, by-address, byte-raw, byte-demangled, stored-at, shown-value}
 
 -- ROM data does not look at ROM rows: the statement of `read_rom_set_data`, which has none, holds with any
@@ -70,7 +70,7 @@ module _ (flashBase cs0Base : ℕ) (l : Lent) (x : List ℕ) where
     pub accepted-byte : byteOf (romRead flashBase cs0Base l count (byte set a false) x) .number ≡ 0
         → byteOf (romRead flashBase cs0Base l count (byte set a false) x) .byte ≡ getD x (place set (physical l a .value)) 0
     accepted-byte e =
-        cases (beyond flashBase cs0Base (length x))
+        cases (beyondWindow flashBase cs0Base x)
         (λ h. let z : _≡_ {A = ℕ} 1 0 = rw (read-beyond flashBase cs0Base l count x (byte set a false) h) at e in absurd (omega arith))
         (λ h.
         let base = baseAfter flashBase cs0Base (l .line) in

@@ -11,10 +11,10 @@ use lib.ListN.{length, getD, take, drop}
 use borrow.Author.Tests.{ltb-true, ltb-false, lt-ltb, le-ltb, eqb-true, eqb-false, eq-eqb, ne-eqb}
 use Rattle.base.specs.Cases.{cases}
 use Rattle.base.specs.Choice.{pick}
-use Rattle.prog.specs.Prog.{done, fetch, canRead, run}
-use Rattle.prog.specs.Read.{Inside, true-inside, part-at}
+use Rattle.window.specs.Window.{canRead, baseAfter, beyondWindow}
+use Rattle.window.specs.Laws.{Inside, true-inside, part-at}
+use Rattle.prog.specs.Prog.{done, fetch, run}
 use Rattle.prog.specs.Run.{run-done, run-failed, run-got, run-map}
-use Rattle.header.specs.Header.{baseAfter}
 use Rattle.pins.specs.declared.PinsItem.{PinsItem}
 use Rattle.mangle.specs.declared.Mangled.{Mangled}
 use Rattle.info.specs.declared.SdrrAddress.{SdrrAddress}
@@ -24,20 +24,7 @@ use Rattle.rom_reads.specs.declared.SetData.{SetData}
 use Rattle.rom_reads.specs.declared.Found.{Found}
 use Rattle.rom_reads.specs.declared.ByteRead.{ByteRead}
 use Rattle.rom_reads.specs.Calls.{byteOf}
-use Rattle.rom_reads.specs.Found.{beyond, setData, notFound, foundOf, noByte, storedByte, physicalBy, shownFrom}
-
--- ---- the window
-
-past-top : (base n : ℕ) → base ≤ 4294967296 → ltb (4294967296 - base) n ≡ ltb 4294967296 (base + n)
-past-top base n h =
-    cases (ltb 4294967296 (base + n))
-    (λ e. let i : 4294967296 - base < n = omega (arith, ltb-true 4294967296 (base + n) e) in lt-ltb (4294967296 - base) n i ∙ sym e)
-    (λ e. let i : n ≤ 4294967296 - base = omega (arith, ltb-false 4294967296 (base + n) e) in le-ltb (4294967296 - base) n i ∙ sym e)
-
--- the code's tests, in which no sum can overflow
-pub beyond-top : (flashBase cs0Base n : ℕ) → flashBase ≤ 4294967296 → cs0Base ≤ 4294967296
-    → (ltb (4294967296 - flashBase) n || ltb (4294967296 - cs0Base) n) ≡ beyond flashBase cs0Base n
-beyond-top flashBase cs0Base n h i = rw (past-top flashBase n h, past-top cs0Base n i)
+use Rattle.rom_reads.specs.Found.{setData, notFound, foundOf, noByte, storedByte, physicalBy, shownFrom}
 
 -- ---- size
 
@@ -130,17 +117,17 @@ pub left-as-was : (n count : ℕ) (lent : List ℕ) → (n ≡ 0 → ⊥) → bu
 left-as-was n count lent h = rw (ne-eqb n 0 h)
 
 module _ (flashBase cs0Base : ℕ) (l : Lent) (count : ℕ) (x : List ℕ) where
-  pub read-beyond : (r : RomRead) → beyond flashBase cs0Base (length x) ≡ true → romRead flashBase cs0Base l count r x ≡ refusedReply 1 count
+  pub read-beyond : (r : RomRead) → beyondWindow flashBase cs0Base x ≡ true → romRead flashBase cs0Base l count r x ≡ refusedReply 1 count
   unfolding romRead
   read-beyond r e = rw e
 
-  read-within : (r : RomRead) → beyond flashBase cs0Base (length x) ≡ false
+  read-within : (r : RomRead) → beyondWindow flashBase cs0Base x ≡ false
       → romRead flashBase cs0Base l count r x ≡ replyOf count r (finished l count r (run (storedP (baseAfter flashBase cs0Base (l .line)) l r) x))
   unfolding romRead readP
   read-within r e = rw e (ap (replyOf count r) (run-map x (finished l count r) (storedP (baseAfter flashBase cs0Base (l .line)) l r)))
 
   -- ROM data as the code has found it: the base in force, what it needs of the set, and where the bytes are
-  module _ (set offset n : ℕ) (within : beyond flashBase cs0Base (length x) ≡ false) (base : ℕ) (in-force : base ≡ baseAfter flashBase cs0Base (l .line)) (d : SetData)
+  module _ (set offset n : ℕ) (within : beyondWindow flashBase cs0Base x ≡ false) (base : ℕ) (in-force : base ≡ baseAfter flashBase cs0Base (l .line)) (d : SetData)
       (of-set : d ≡ setData (l .served) (l .setWords) set) (f : Found) (found : f ≡ foundOf x base d offset n) where
     data-within : romRead flashBase cs0Base l count (range set offset n) x ≡ replyOf count (range set offset n) (finished l count (range set offset n) (bytesAt x n f))
     unfolding storedP
@@ -168,7 +155,7 @@ module _ (flashBase cs0Base : ℕ) (l : Lent) (count : ℕ) (x : List ℕ) where
       ≡ record { number = 0; bytes = take n (drop (foundOf x (baseAfter flashBase cs0Base (l .line)) (setData (l .served) (l .setWords) set) offset n .at) x); count = count + n })
   data-accepted set offset n e =
       let f = foundOf x (baseAfter flashBase cs0Base (l .line)) (setData (l .served) (l .setWords) set) offset n in
-      cases (beyond flashBase cs0Base (length x))
+      cases (beyondWindow flashBase cs0Base x)
       (λ h. let z : _≡_ {A = ℕ} 1 0 = ap (λ (r : Reply). r .number) (sym (read-beyond (range set offset n) h)) ∙ e in absurd (omega arith))
       (λ h.
       cases (eqb (f .number) 0)
@@ -255,7 +242,7 @@ by-address l (SdrrAddress.Logical address levels) = refl
 
 module _ (flashBase cs0Base : ℕ) (l : Lent) (count : ℕ) (x : List ℕ) (set : ℕ) (a : SdrrAddress) where
   -- a raw byte as the code has read it: the base in force, what it needs of the set, and the mangled address
-  pub byte-raw : beyond flashBase cs0Base (length x) ≡ false → (base : ℕ) → base ≡ baseAfter flashBase cs0Base (l .line) → (d : SetData) → d ≡ setData (l .served) (l .setWords) set
+  pub byte-raw : beyondWindow flashBase cs0Base x ≡ false → (base : ℕ) → base ≡ baseAfter flashBase cs0Base (l .line) → (d : SetData) → d ≡ setData (l .served) (l .setWords) set
       → (m : Mangled) → m ≡ physicalBy (l .pins) (l .served) (l .setWords) (l .romWords) a → (r : ByteRead) → r ≡ storedByte x base d m count
       → r ≡ byteOf (romRead flashBase cs0Base l count (byte set a false) x)
   unfolding storedP
@@ -269,7 +256,7 @@ module _ (flashBase cs0Base : ℕ) (l : Lent) (count : ℕ) (x : List ℕ) (set 
   byte-shown : byteOf (romRead flashBase cs0Base l count (byte set a true) x) ≡ shownFrom (l .pins) (byteOf (romRead flashBase cs0Base l count (byte set a false) x)) count
   unfolding storedP shownFrom
   byte-shown =
-      cases (beyond flashBase cs0Base (length x))
+      cases (beyondWindow flashBase cs0Base x)
       (λ h. rw (read-beyond flashBase cs0Base l count x (byte set a true) h, read-beyond flashBase cs0Base l count x (byte set a false) h))
       (λ h.
       ap byteOf (read-within flashBase cs0Base l count x (byte set a true) h)

@@ -1,10 +1,10 @@
 // ROM data and the byte reads (info.rs `read_rom_set_data`, `get_rom_set_size`, `read_rom_byte_raw`, `read_rom_byte_demangled`).
 // They go by the report and rows as lent.
+use board::Board;
 use info::SdrrAddress;
 use info::Valued;
 use mangle::Mangled;
 use pins::PinsItem;
-use types::McuLine;
 ghost use mathlib.Core.Path.{_≡_};
 ghost use mathlib.Core.List.{[]};
 ghost use mathlib.Core.Bool.{true, false};
@@ -12,16 +12,7 @@ ghost use lib.ListN.{length};
 ghost use Rattle.info.specs.Lent.{setNumber, sizeCall};
 ghost use Rattle.info.specs.Reads.{range, byte, romRead, bufferLeft};
 ghost use Rattle.rom_reads.specs.Calls.{lentBy, countedOf, byteOf};
-ghost use Rattle.rom_reads.specs.Found.{beyond, setData, notFound, foundOf, noByte, storedByte, physicalBy, shownFrom};
-
-// Where the image stands, and of the report what reads look at: the line, the pins item, the sets served.
-pub struct Board {
-    pub flash_base: u32,
-    pub cs0_base: u32,
-    pub line: McuLine,
-    pub pins: PinsItem,
-    pub served: u32,
-}
+ghost use Rattle.rom_reads.specs.Found.{setData, notFound, foundOf, noByte, storedByte, physicalBy, shownFrom};
 
 // 0 or the refusal's number, and the served count afterwards.
 pub struct Counted {
@@ -85,16 +76,6 @@ fn set_data(served: u32, set_rows: &[u32], set: u32) -> SetData
     }
 }
 
-// Either base plus the image's length exceeds 2^32.
-fn beyond_window(flash_base: u32, cs0_base: u32, length: usize) -> bool
-    ensures { λ r. ⌜ r ≡ beyond «flash_base» «cs0_base» length ⌝ }
-{
-    base::either(
-        4294967296 - (flash_base as usize) < length,
-        4294967296 - (cs0_base as usize) < length,
-    )
-}
-
 fn not_found(number: u8) -> Found
     ensures { λ r. ⌜ r ≡ notFound number ⌝ }
 {
@@ -115,7 +96,7 @@ fn find(image: &[u8], base: u32, data: SetData, offset: u32, n: usize) -> Found
         return not_found(81);
     }
     let address = data.pointer as u64 + offset as u64;
-    if !text::can_read(image, base, address, n) {
+    if !window::can_read(image, base, address, n) {
         return not_found(2);
     }
     let at = (address - base as u64) as usize;
@@ -147,14 +128,14 @@ pub fn read_rom_set_data(
     ensures reply { λ r. ⌜ r ≡ countedOf (romRead (board .«flash_base») (board .«cs0_base») (lentBy board (now («set_rows» .entry)) []) count (range set offset (length (now (buffer .entry)))) (now (image .entry))) ⌝ }
     ensures buffer { λ r. ⌜ now (buffer .exit) ≡ bufferLeft (romRead (board .«flash_base») (board .«cs0_base») (lentBy board (now («set_rows» .entry)) []) count (range set offset (length (now (buffer .entry)))) (now (image .entry))) (now (buffer .entry)) ⌝ }
 {
-    if beyond_window(board.flash_base, board.cs0_base, image.len()) {
+    if window::beyond_window(image, board.flash_base, board.cs0_base) {
         return Counted { number: 1, count };
     }
     let n = buffer.len();
     let line = board.line;
     let found = find(
         image,
-        header::base_after(board.flash_base, board.cs0_base, line),
+        window::base_after(board.flash_base, board.cs0_base, line),
         set_data(board.served, set_rows, set),
         offset,
         n,
@@ -240,14 +221,14 @@ pub fn read_rom_byte_raw(
 ) -> ByteRead
     ensures { λ r. ⌜ r ≡ byteOf (romRead (board .«flash_base») (board .«cs0_base») (lentBy board (now («set_rows» .entry)) (now («rom_rows» .entry))) count (byte set address false) (now (image .entry))) ⌝ }
 {
-    if beyond_window(board.flash_base, board.cs0_base, image.len()) {
+    if window::beyond_window(image, board.flash_base, board.cs0_base) {
         return no_byte(1, count);
     }
     let pins = board.pins;
     let served = board.served;
     let m = physical_address(pins, served, set_rows, rom_rows, address);
     let line = board.line;
-    let base = header::base_after(board.flash_base, board.cs0_base, line);
+    let base = window::base_after(board.flash_base, board.cs0_base, line);
     let data = set_data(served, set_rows, set);
     stored_byte(image, base, data, m, count)
 }

@@ -11,6 +11,7 @@ use lib.Dec.{eqb, ltb}
 use lib.ListN.{length, getD, set, drop, drop-of-length-le}
 use lib.Seq.{sets, drop-cons}
 use Rattle.base.specs.Choice.{pick}
+use Rattle.window.specs.Window.{onFrom}
 use Rattle.le.specs.Le.{u8At, u32At}
 use Rattle.prog.specs.Prog.{run}
 use Rattle.prog.specs.Run.{run-done}
@@ -18,7 +19,7 @@ use Rattle.text.specs.declared.Text.{Text}
 use Rattle.text.specs.Text.{refused, textP}
 use Rattle.walk.specs.Walk.{noName, nameAt, Rom, RomSet, romOf, romsOf}
 use Rattle.walk.specs.Names.{nameP}
-use Rattle.set_header.specs.SetHeader.{onFrom, infoPointer, strideOf}
+use Rattle.set_header.specs.SetHeader.{infoPointer, strideOf}
 use Rattle.walk.specs.Passes.{romAt, romsAt, setOf, setAt, after, setsAt}
 use Rattle.rom_rows.specs.RowWords.{setWords, romWords, set-words, rom-words, namedRow, namedRows, named-append, named-row-length, named-length, rowsFrom}
 use Rattle.walk.specs.PassLaws.{roms-length}

@@ -76,7 +76,7 @@ fn rom_name(image: &[u8], base: u32, filenames: bool, s: &[u8]) -> Text
 fn named_row(image: &[u8], base: u32, filenames: bool, entry: u64) -> [u32; 7]
     ensures { λ r. ⌜ r ≡ namedRow (now (image .entry)) base (romAt (now (image .entry)) base filenames entry) ⌝ }
 {
-    let s = set_header::image_from(image, base, set_header::info_ptr(image, base, entry) as u64);
+    let s = window::image_from(image, base, set_header::info_ptr(image, base, entry) as u64);
     rom_row(s, rom_name(image, base, filenames, s))
 }
 
@@ -125,7 +125,7 @@ fn write_rom_sets(
     let mut at: usize = 0;
     let mut first: u32 = 0;
     while left != 0 {
-        let s = set_header::image_from(image, base, address);
+        let s = window::image_from(image, base, address);
         let n = le::u8_at(s, 12);
         let row = set_row(first, s);
         put_words(set_rows, at, &row);

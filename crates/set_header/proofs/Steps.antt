@@ -7,24 +7,10 @@ use mathlib.Core.Bool.{Bool, true, false, not, _&&_}
 use mathlib.Core.List.{List, []}
 use lib.Dec.{eqb}
 use lib.ListN.{length, take, drop, drop-of-length-le}
+use Rattle.window.specs.Window.{onFrom}
+use Rattle.window.specs.Laws.{onward}
 use Rattle.le.specs.Le.{u8At, u32At}
-use Rattle.prog.specs.Read.{onward}
-use Rattle.set_header.specs.SetHeader.{onFrom, infoPointer, extraByte, pointed, strideOf}
-
--- ---- the image from an address on
-
-module _ (x : List ℕ) (base address : ℕ) where
-  pub from-below : address < base → x ≡ onFrom x base address
-  unfolding onFrom
-  from-below h = let z : address - base ≡ 0 = omega arith in rw z
-
-  pub from-past : length x ≤ address - base → [] ≡ onFrom x base address
-  unfolding onFrom
-  from-past h = sym (drop-of-length-le x h)
-
-  pub from-inside : take (length x - (address - base)) (drop (address - base) x) ≡ onFrom x base address
-  unfolding onFrom
-  from-inside = onward (address - base) x
+use Rattle.set_header.specs.SetHeader.{infoPointer, extraByte, pointed, strideOf}
 
 -- the pointer in an entry
 pub entry-read : (x : List ℕ) (base entry : ℕ) (l : List ℕ) (r : ℕ) → l ≡ onFrom x base entry → r ≡ u32At l 0 → r ≡ infoPointer x base entry

@@ -6,10 +6,7 @@ use lib.Dec.{eqb}
 use lib.ListN.{drop}
 use Rattle.base.specs.Choice.{pick}
 use Rattle.le.specs.Le.{u8At, u32At}
-
--- the image from an address on
-unfoldable pub onFrom : List ℕ → ℕ → ℕ → List ℕ
-onFrom x base address = drop (address - base) x
+use Rattle.window.specs.Window.{onFrom}
 
 -- "ROM infos: a u32 pointer table": the pointer in an entry of it
 abbrev pub infoPointer : List ℕ → ℕ → ℕ → ℕ

@@ -1,27 +1,13 @@
 // A set's header and a ROM table's entries, as both passes of the walk read them (parsing.rs `read_rom_sets`, `read_rom_infos`).
 ghost use mathlib.Core.Path.{_≡_};
-ghost use Rattle.set_header.specs.SetHeader.{onFrom, infoPointer, pointed, configOf, overridesOf, strideOf};
-
-// The image from an address on: all of it below the base, and nothing past its end.
-pub fn image_from(image: &[u8], base: u32, address: u64) -> &[u8]
-    ensures { λ r. ⌜ now r ≡ onFrom (now (image .entry)) base address ⌝ }
-{
-    let from = base as u64;
-    if address < from {
-        return image;
-    }
-    let offset = (address - from) as usize;
-    if image.len() < offset {
-        return &image[..0];
-    }
-    &image[offset..]
-}
+ghost use Rattle.window.specs.Window.{onFrom};
+ghost use Rattle.set_header.specs.SetHeader.{infoPointer, pointed, configOf, overridesOf, strideOf};
 
 // The pointer in an entry of the table.
 pub fn info_ptr(image: &[u8], base: u32, entry: u64) -> u32
     ensures { λ r. ⌜ r ≡ infoPointer (now (image .entry)) base entry ⌝ }
 {
-    le::u32_at(image_from(image, base, entry), 0)
+    le::u32_at(window::image_from(image, base, entry), 0)
 }
 
 // A pointer that counts and is there, or 0.

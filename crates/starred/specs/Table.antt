@@ -3,10 +3,11 @@ use Prim.Native.Nat.{ℕ}
 use mathlib.Core.Path.{_≡_, refl, ap}
 use mathlib.Core.List.{List, [], _∷_}
 use lib.ListN.{replicate}
+use Rattle.window.specs.Window.{canRead}
 use Rattle.le.specs.Le.{startsWith}
 use Rattle.runtime_info.specs.Runtime.{headOf, headerOf, reaches, group060Of, group062Of, group063Of, group067Of, runtimeOf}
 use Rattle.runtime_info.specs.Words.{headWords, words060, words062, words063, words067, runtimeWords, numberOf, wordsAfter}
-use Rattle.prog.specs.Prog.{run, answer as readAnswer, canRead}
+use Rattle.prog.specs.Prog.{run, answer as readAnswer}
 use Rattle.utf8.specs.Utf8.{classOf, lowAfter, highAfter, lacking, isUtf8}
 use Rattle.types.specs.declared.SdrrRomType.{SdrrRomType}
 use Rattle.types.specs.declared.Level.{Level}

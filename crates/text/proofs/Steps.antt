@@ -11,20 +11,14 @@ use lib.ListN.{length, getD, take, drop, length-drop, drop-of-length-le}
 use lib.Seq.{drop-cons, length-take-le}
 use borrow.Author.Tests.{leb-true, leb-false, eq-eqb, ne-eqb}
 use Rattle.base.specs.Cases.{cases}
-use Rattle.prog.specs.Prog.{canRead, run}
-use Rattle.prog.specs.Read.{inside-true, true-inside, past-false, part}
+use Rattle.window.specs.Window.{canRead}
+use Rattle.window.specs.Laws.{inside-true, true-inside, past-false, part}
+use Rattle.prog.specs.Prog.{run}
 use Rattle.utf8.specs.Utf8.{isUtf8}
 use Rattle.text.specs.Text.{accepted, refused, partOf, hasNul, beforeNul, judged, textP}
 use Rattle.text.specs.Nul.{before-shorter, before-all}
 use Rattle.text.specs.Laws.{restP, chunkAfter, text-start, chunks-none, chunks-ended, chunks-found, chunks-next, part-inside}
 use Rattle.text.specs.declared.Text.{Text as Str}
-
--- past the window's other tests, the bytes from the offset on decide
-pub enough-left : (x : List ℕ) (base a n : ℕ) → base ≤ a → a ≤ 4294967295 → a - base ≤ length x → leb n (length x - (a - base)) ≡ canRead x base a n
-enough-left x base a n from word upto =
-    cases (leb n (length x - (a - base)))
-    (λ e. let l = leb-true n (length x - (a - base)) e in e ∙ sym (inside-true x base a n (record { from = from; word = word; upto = omega arith })))
-    (λ e. let l = leb-false n (length x - (a - base)) e in e ∙ sym (past-false x base a n (omega arith)))
 
 -- the search for a NUL: where it ends, where it finds one, and where it goes on
 module _ (s : List ℕ) (i : ℕ) where

@@ -3,7 +3,8 @@ use Prim.Native.Nat.{ℕ}
 use mathlib.Core.Path.{_≡_, refl}
 use mathlib.Core.List.{[], _∷_, _++_}
 use lib.ListN.{replicate}
-use Rattle.prog.specs.Prog.{canRead, answer, run, trace, tried, endOf, reach}
+use Rattle.window.specs.Window.{canRead}
+use Rattle.prog.specs.Prog.{answer, run, trace, tried, endOf, reach}
 use Rattle.utf8.specs.Utf8.{classOf, lowAfter, highAfter, lacking, isUtf8}
 use Rattle.text.specs.Text.{accepted, refused, hasNul, beforeNul, judged, chunksP, textP}
 

@@ -10,8 +10,9 @@ use lib.ListN.{length, getD, take, drop, length-take, length-drop}
 use lib.Seq.{getD-drop, take-add, drop-drop, take-take, length-take-le}
 use borrow.Author.Tests.{ltb-true, ltb-false, eqb-true, eqb-false, lt-ltb, le-ltb, le-leb, lt-leb}
 use Rattle.base.specs.Cases.{cases}
-use Rattle.prog.specs.Prog.{Prog, canRead, run, tried}
-use Rattle.prog.specs.Read.{true-inside, part-at}
+use Rattle.window.specs.Window.{canRead}
+use Rattle.window.specs.Laws.{true-inside, part-at}
+use Rattle.prog.specs.Prog.{Prog, run, tried}
 use Rattle.prog.specs.Run.{run-done, run-failed, run-got}
 use Rattle.prog.specs.Honest.{Honest, honest-done, honest-fetch, honest-pick}
 use Rattle.prog.specs.Counts.{Within, within-done, within-fetch, within-pick, within-tried}

@@ -6,6 +6,7 @@ use lib.Dec.{leb, ltb, eqb}
 use lib.ListN.{length, take, drop}
 use Rattle.base.specs.Choice.{pick}
 use Rattle.prog.specs.Prog.{Prog, done, fetch, run}
+use Rattle.window.specs.Window.{pastWindow}
 use Rattle.utf8.specs.Utf8.{isUtf8}
 use Rattle.text.specs.declared.Text.{Text as Str}
 
@@ -52,7 +53,7 @@ textP base pointer = pick (ltb pointer base) (done (refused 3)) (chunksP 16 base
 
 -- "Window check", for the exported call, which is given an image and one base. 1: base plus image length exceeds 2^32.
 unfoldable pub stringCall : ℕ → ℕ → List ℕ → Str
-stringCall base pointer x = pick (ltb 4294967296 (base + length x)) (refused 1) (run (textP base pointer) x)
+stringCall base pointer x = pick (pastWindow base x) (refused 1) (run (textP base pointer) x)
 
 -- the two lent words afterwards: offset and length; a refusal changes none
 abbrev pub partAfter : Str → List ℕ → List ℕ

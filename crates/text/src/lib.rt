@@ -1,8 +1,9 @@
-// Strings of the image (parsing.rs and lib.rs `read_string_at_ptr`), and the test whether a read succeeds.
+// Strings of the image (parsing.rs and lib.rs `read_string_at_ptr`).
 ghost use mathlib.Core.Path.{_≡_};
 ghost use Prim.Native.Nat.{_+_, _≤_};
 ghost use lib.ListN.{length, take, drop};
-ghost use Rattle.prog.specs.Prog.{canRead, run};
+ghost use Rattle.window.specs.Window.{canRead};
+ghost use Rattle.prog.specs.Prog.{run};
 ghost use Rattle.text.specs.Text.{refused, bytesOf, partOf, beforeNul, judged, textP};
 
 // A string is read in chunks of 64 bytes, at most 1,024.
@@ -15,24 +16,6 @@ pub struct Text {
     pub number: u8,
     pub offset: u32,
     pub length: u32,
-}
-
-// Whether a read of n bytes at an address succeeds (document 01, "Window"). No sum of the two is made, so none can overflow.
-pub fn can_read(image: &[u8], base: u32, address: u64, n: usize) -> bool
-    ensures { λ r. ⌜ r ≡ canRead (now (image .entry)) base address n ⌝ }
-{
-    let from = base as u64;
-    if address < from {
-        return false;
-    }
-    if 4294967295 < address {
-        return false;
-    }
-    let offset = (address - from) as usize;
-    if image.len() < offset {
-        return false;
-    }
-    n <= image.len() - offset
 }
 
 // How many bytes come before the first NUL; all of them where there is none.
@@ -97,7 +80,7 @@ pub fn read_string_at_ptr(image: &[u8], base: u32, ptr: u32) -> Text
     let offset = ptr - base;
     let mut n: usize = 0;
     while n < LONGEST {
-        if !can_read(image, base, ptr as u64 + n as u64, CHUNK) {
+        if !window::can_read(image, base, ptr as u64 + n as u64, CHUNK) {
             return refuse(2);
         }
         let at = offset as usize + n;

@@ -8,8 +8,9 @@ use mathlib.Core.Bool.{Bool, true, false, _||_}
 use mathlib.Core.List.{List}
 use lib.Dec.{ltb}
 use borrow.Author.Tests.{eq-eqb, ne-eqb, lt-ltb, le-ltb}
+use Rattle.window.specs.Window.{canRead, onFrom}
 use Rattle.le.specs.Le.{u8At, u32At}
-use Rattle.prog.specs.Prog.{canRead, run}
+use Rattle.prog.specs.Prog.{run}
 use Rattle.walk.specs.Walk.{infoSize, walkP}
 use Rattle.header.specs.declared.SdrrInfoFields.{SdrrInfoFields}
 use Rattle.version.specs.Version.{from060}
@@ -17,7 +18,7 @@ use Rattle.header.specs.Header.{hasFilenames}
 use Rattle.walk.specs.declared.Walked.{Walked}
 use Rattle.walk.specs.PassLaws.{romsIn, total-none}
 use Rattle.walk.specs.Judged.{walked, judgedOf, walked-good, walked-bad, walk-judged}
-use Rattle.walk.specs.Passes.{orNext, onFrom, infoNumber, infoPointer, romNumber, romsNumber, tableNumber, pointedNumber, configOf, overridesOf, headerNumber, partNumber, setNumber, strideOf, after, setsNumber, walkNumber}
+use Rattle.walk.specs.Passes.{orNext, infoNumber, infoPointer, romNumber, romsNumber, tableNumber, pointedNumber, configOf, overridesOf, headerNumber, partNumber, setNumber, strideOf, after, setsNumber, walkNumber}
 
 -- ---- one part after the other
 

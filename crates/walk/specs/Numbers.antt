@@ -6,13 +6,14 @@ use mathlib.Core.Bool.{Bool, true, false, _||_}
 use mathlib.Core.List.{List}
 use lib.Dec.{ltb, eqb, lit≤}
 use Rattle.base.specs.Choice.{pick}
+use Rattle.window.specs.Window.{canRead, onFrom}
 use Rattle.le.specs.Le.{u8At, u32At}
-use Rattle.prog.specs.Prog.{run, canRead}
+use Rattle.prog.specs.Prog.{run}
 use Rattle.header.specs.declared.SdrrInfoFields.{SdrrInfoFields}
 use Rattle.version.specs.Version.{from060}
 use Rattle.header.specs.Header.{hasFilenames}
 use Rattle.walk.specs.Walk.{RomSet, Part, stop, found, infoSize, walkP}
-use Rattle.walk.specs.Passes.{orNext, onFrom, infoNumber, infoPointer, romNumber, romsNumber, tableNumber, pointedNumber, configOf, overridesOf, headerNumber, partNumber, setNumber, after, setsNumber, walkNumber}
+use Rattle.walk.specs.Passes.{orNext, infoNumber, infoPointer, romNumber, romsNumber, tableNumber, pointedNumber, configOf, overridesOf, headerNumber, partNumber, setNumber, after, setsNumber, walkNumber}
 use Rattle.walk.specs.Says.{Says, accepts, refuses, walk-tells}
 
 either : (b : Bool) (n m : ℕ) → n ≤ 43 → m ≤ 43 → pick b n m ≤ 43

@@ -7,8 +7,9 @@ use mathlib.Core.Bool.{Bool}
 use mathlib.Core.List.{List}
 use lib.ListN.{length, length-append}
 use Rattle.le.specs.Le.{u8At, u32At}
+use Rattle.window.specs.Window.{onFrom}
 use Rattle.walk.specs.Walk.{romsOf}
-use Rattle.walk.specs.Passes.{onFrom, romsAt, partRoms, setOf, setAt, strideOf, after, setsAt}
+use Rattle.walk.specs.Passes.{romsAt, partRoms, setOf, setAt, strideOf, after, setsAt}
 
 pub roms-length : (x : List ℕ) (base : ℕ) (filenames : Bool) (entry n : ℕ) → length (romsAt x base filenames entry n) ≡ n
 unfolding romsAt

@@ -5,11 +5,11 @@ use mathlib.Core.Bool.{Bool, _||_}
 use mathlib.Core.List.{List, [], _∷_}
 use lib.Dec.{ltb, eqb}
 use Rattle.base.specs.Choice.{pick}
+use Rattle.window.specs.Window.{canRead, onFrom}
 use Rattle.le.specs.Le.{u8At, u32At}
-use Rattle.prog.specs.Prog.{canRead}
 use Rattle.walk.specs.Walk.{Rom, RomSet, romOf, infoSize}
 pub use Rattle.set_header.specs.SetHeader.{infoPointer, configOf, overridesOf, strideOf}
-unfoldable pub use Rattle.set_header.specs.SetHeader.{onFrom, pointed}
+unfoldable pub use Rattle.set_header.specs.SetHeader.{pointed}
 
 -- a number, or the next one where it is 0
 abbrev pub orNext : ℕ → ℕ → ℕ

@@ -11,14 +11,15 @@ use lib.Seq.{getD-take}
 use borrow.Author.Tests.{ne-eqb, eqb-true}
 use Rattle.base.specs.Cases.{cases}
 use Rattle.base.specs.Choice.{pick}
+use Rattle.window.specs.Window.{canRead, onFrom}
 use Rattle.le.specs.Le.{u8At, u32At}
-use Rattle.prog.specs.Prog.{Prog, done, fetch, _>>=_, run, canRead}
+use Rattle.prog.specs.Prog.{Prog, done, fetch, _>>=_, run}
 use Rattle.prog.specs.Run.{run-done, run-bind, run-failed, run-got}
 use Rattle.header.specs.declared.SdrrInfoFields.{SdrrInfoFields}
 use Rattle.version.specs.Version.{from060}
 use Rattle.header.specs.Header.{hasFilenames}
 use Rattle.walk.specs.Walk.{Rom, RomSet, Part, stop, found, orStop, refuse, romOf, infoSize, judgeRom, romP, romsP, tableP, pointedP, extraByte, setP, stride, romsOf, setsP, walkP}
-use Rattle.walk.specs.Passes.{orNext, onFrom, infoNumber, infoPointer, romNumber, romAt, romsNumber, romsAt, tableNumber, pointed, pointedNumber, configOf, overridesOf, headerNumber, setOf, partNumber, partRoms, setNumber, setAt, strideOf, after, setsNumber, setsAt, walkNumber}
+use Rattle.walk.specs.Passes.{orNext, infoNumber, infoPointer, romNumber, romAt, romsNumber, romsAt, tableNumber, pointed, pointedNumber, configOf, overridesOf, headerNumber, setOf, partNumber, partRoms, setNumber, setAt, strideOf, after, setsNumber, setsAt, walkNumber}
 
 -- the part p: accepted with a and number 0, or refused with a number that is not 0
 pub data Says {A : Type 0} (a : A) : ℕ → Part A → Type 0 where

@@ -39,14 +39,14 @@ fn judge_rom_info(s: &[u8]) -> u8
 fn judge_rom(image: &[u8], base: u32, filenames: bool, entry: u64) -> u8
     ensures { λ r. ⌜ r ≡ romNumber (now (image .entry)) base filenames entry ⌝ }
 {
-    if !text::can_read(image, base, entry, 4) {
+    if !window::can_read(image, base, entry, 4) {
         return 2;
     }
     let ptr = set_header::info_ptr(image, base, entry);
-    if !text::can_read(image, base, ptr as u64, info_size(filenames)) {
+    if !window::can_read(image, base, ptr as u64, info_size(filenames)) {
         return 2;
     }
-    judge_rom_info(set_header::image_from(image, base, ptr as u64))
+    judge_rom_info(window::image_from(image, base, ptr as u64))
 }
 
 // So many ROMs, whose pointers stand in a table.
@@ -87,7 +87,7 @@ fn judge_pointed(image: &[u8], base: u32, address: u32) -> u8
     if address == 0 {
         return 0;
     }
-    if !text::can_read(image, base, address as u64, 64) {
+    if !window::can_read(image, base, address as u64, 64) {
         return 2;
     }
     0
@@ -125,14 +125,14 @@ fn judge_part(image: &[u8], base: u32, filenames: bool, s: &[u8]) -> u8
 fn judge_set(image: &[u8], base: u32, filenames: bool, address: u64) -> u8
     ensures { λ r. ⌜ r ≡ setNumber (now (image .entry)) base filenames address ⌝ }
 {
-    if !text::can_read(image, base, address, 64) {
+    if !window::can_read(image, base, address, 64) {
         return 2;
     }
     judge_part(
         image,
         base,
         filenames,
-        set_header::image_from(image, base, address),
+        window::image_from(image, base, address),
     )
 }
 
@@ -151,7 +151,7 @@ fn judge_sets(image: &[u8], base: u32, filenames: bool, long: bool, ptr: u32, co
                 rom_count: 0,
             };
         }
-        let s = set_header::image_from(image, base, address);
+        let s = window::image_from(image, base, address);
         roms += le::u8_at(s, 12) as u32;
         address += set_header::set_stride(long, s);
         left -= 1;

@@ -1,3 +1,2 @@
-pub mod Looked
-pub mod Records
+pub mod Window
 pub mod Laws

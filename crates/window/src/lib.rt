@@ -1,95 +1,79 @@
-// The records at the header's pointers.
-use extra_info::ExtraInfoItem;
-use header::SdrrInfoHeader;
-use metadata::MetadataItem;
-use pins::PinsItem;
-use text::Text;
-use version::FirmwareVersion;
+// The window (document 01): which reads of an image succeed, where the image goes on from an address, and when it is refused whole.
+// Addresses and lengths are only compared with differences, so that no sum can overflow.
+use types::McuLine;
 ghost use mathlib.Core.Path.{_≡_};
-ghost use Rattle.prog.specs.Prog.{run};
-ghost use Rattle.text.specs.Text.{textP};
-ghost use Rattle.extra_info.specs.ExtraInfo.{extraInfoP};
-ghost use Rattle.pins.specs.Pins.{pinsP};
-ghost use Rattle.window.specs.Looked.{lookP};
-ghost use Rattle.window.specs.Records.{sourceOf, recordsOf};
+ghost use Rattle.window.specs.Window.{canRead, onFrom, pastWindow, beyondWindow, baseAfter, pointerNumber};
 
-// The image, and the base in force: what the readers below are given. Each leaves the work to a function on the slice and the number.
-struct Window<'a> {
-    image: &'a [u8],
-    base: u32,
-}
-
-// Metadata's item, and what the walk goes by: the header's count and pointer below 0.5.0, metadata's from then on.
-pub struct SetsSource {
-    pub metadata: MetadataItem,
-    pub ended: bool,
-    pub rom_set_count: u8,
-    pub rom_sets_ptr: u32,
-}
-
-pub struct Records {
-    pub build_date: Text,
-    pub hw_rev: Text,
-    pub extra_info: ExtraInfoItem,
-    pub sets: SetsSource,
-    pub pins: PinsItem,
-}
-
-// The version's test stands here, in a function on the slice, so that the readers below have no branch.
-fn sets_source(image: &[u8], base: u32, header: SdrrInfoHeader) -> SetsSource
-    ensures { λ r. ⌜ r ≡ sourceOf header (run (lookP base header) (now (image .entry))) ⌝ }
+// Whether a read of n bytes at an address succeeds.
+pub fn can_read(image: &[u8], base: u32, address: u64, n: usize) -> bool
+    ensures { λ r. ⌜ r ≡ canRead (now (image .entry)) base address n ⌝ }
 {
-    let fields = header.fields;
-    if !version::from_0_5_0(fields.version) {
-        return SetsSource {
-            metadata: MetadataItem::NotLookedFor,
-            ended: false,
-            rom_set_count: header.rom_set_count,
-            rom_sets_ptr: header.rom_sets_ptr,
-        };
+    let from = base as u64;
+    if address < from {
+        return false;
     }
-    let m = metadata::read_one_rom_metadata_header_info(image, base, header.rom_sets_ptr);
-    SetsSource {
-        metadata: MetadataItem::Looked(m.number),
-        ended: m.number == 2,
-        rom_set_count: m.rom_set_count,
-        rom_sets_ptr: m.rom_sets_ptr,
+    if 4294967295 < address {
+        return false;
     }
+    let offset = (address - from) as usize;
+    if image.len() < offset {
+        return false;
+    }
+    n <= image.len() - offset
 }
 
-fn string_at<'a>(w: Window<'a>, ptr: u32) -> Text
-    ensures { λ r. ⌜ r ≡ run (textP (w .entry .base) ptr) (now (w .entry .image)) ⌝ }
+// The image from an address on: all of it below the base, and nothing past its end.
+pub fn image_from(image: &[u8], base: u32, address: u64) -> &[u8]
+    ensures { λ r. ⌜ now r ≡ onFrom (now (image .entry)) base address ⌝ }
 {
-    text::read_string_at_ptr(w.image, w.base, ptr)
+    let from = base as u64;
+    if address < from {
+        return image;
+    }
+    let offset = (address - from) as usize;
+    if image.len() < offset {
+        return &image[..0];
+    }
+    &image[offset..]
 }
 
-fn extra_info_at<'a>(w: Window<'a>, ptr: u32, version: FirmwareVersion) -> ExtraInfoItem
-    ensures { λ r. ⌜ r ≡ run (extraInfoP (w .entry .base) ptr version) (now (w .entry .image)) ⌝ }
+// 3, 2 or 0: what n bytes at a pointer are refused with.
+pub fn pointer_number(image: &[u8], base: u32, ptr: u32, n: usize) -> u8
+    ensures { λ r. ⌜ r ≡ pointerNumber (now (image .entry)) base ptr n ⌝ }
 {
-    extra_info::read_extra_info(w.image, w.base, ptr, version)
+    if ptr < base {
+        return 3;
+    }
+    if can_read(image, base, ptr as u64, n) {
+        return 0;
+    }
+    2
 }
 
-fn metadata_at<'a>(w: Window<'a>, header: SdrrInfoHeader) -> SetsSource
-    ensures { λ r. ⌜ r ≡ sourceOf header (run (lookP (w .entry .base) header) (now (w .entry .image))) ⌝ }
+// The base plus the image's length exceeds 2^32.
+pub fn past_window(image: &[u8], base: u32) -> bool
+    ensures { λ r. ⌜ r ≡ pastWindow base (now (image .entry)) ⌝ }
 {
-    sets_source(w.image, w.base, header)
+    4294967296 - (base as usize) < image.len()
 }
 
-fn pins_at<'a>(w: Window<'a>, ptr: u32) -> PinsItem
-    ensures { λ r. ⌜ r ≡ run (pinsP (w .entry .base) ptr) (now (w .entry .image)) ⌝ }
+// The window check: either base plus the image's length exceeds 2^32.
+pub fn beyond_window(image: &[u8], flash_base: u32, cs0_base: u32) -> bool
+    ensures { λ r. ⌜ r ≡ beyondWindow «flash_base» «cs0_base» (now (image .entry)) ⌝ }
 {
-    pins::read_pins(w.image, w.base, ptr)
+    base::either(past_window(image, flash_base), past_window(image, cs0_base))
 }
 
-pub fn read_records(image: &[u8], base: u32, header: SdrrInfoHeader) -> Records
-    ensures { λ r. ⌜ r ≡ recordsOf base header (now (image .entry)) ⌝ }
+// The base in force after the header: the CS0 base for Rp2350.
+pub fn base_after(flash_base: u32, cs0_base: u32, line: McuLine) -> u32
+    ensures { λ r. ⌜ r ≡ baseAfter «flash_base» «cs0_base» line ⌝ }
 {
-    let w = Window { image, base };
-    Records {
-        build_date: string_at(w, header.build_date_ptr),
-        hw_rev: string_at(w, header.hw_rev_ptr),
-        extra_info: extra_info_at(w, header.extra_ptr, header.fields.version),
-        sets: metadata_at(w, header),
-        pins: pins_at(w, header.pins_ptr),
+    match line {
+        McuLine::F401DE => flash_base,
+        McuLine::F405 => flash_base,
+        McuLine::F411 => flash_base,
+        McuLine::F446 => flash_base,
+        McuLine::F401BC => flash_base,
+        McuLine::Rp2350 => cs0_base,
     }
 }

@@ -4,8 +4,8 @@ use Rattle.info.specs.Steps.{in-two}
 use Rattle.info.proofs.mangle_address.Statement.{statement}
 use Rattle.info.proofs.mangle_address.Tie as tie
 
-governing-requires : tie.Need-governing-requires
-governing-requires c κs = search needs
+governing-set-0-requires : tie.Need-governing-set-0-requires
+governing-set-0-requires c κs = search needs
 
 mangle-by-requires : tie.Need-mangle-by-requires
 mangle-by-requires c κs = search needs
@@ -14,7 +14,7 @@ returns : tie.Need-returns
 returns c =
     let entry = c .before .before .before .before .before .args in
     let law = in-two (entry .pins) (entry .served) (entry .set-rows .now) (entry .rom-rows .now) (entry .address) (entry .cs-set) in
-    rw law (c .mangle-by .ensures ∙ rw (c .before .before .governing .ensures) refl)
+    rw law (c .mangle-by .ensures ∙ rw (c .before .before .governing-set-0 .ensures) refl)
 
 pub mangle-address-spec : {M : Type 1} → statement M
-mangle-address-spec = tie.close (tie.spec governing-requires mangle-by-requires returns)
+mangle-address-spec = tie.close (tie.spec governing-set-0-requires mangle-by-requires returns)

@@ -12,8 +12,8 @@ pins-from-requires c κs = search needs
 levels-from-requires : tie.Need-levels-from-requires
 levels-from-requires c κs = search needs
 
-governing-requires : tie.Need-governing-requires
-governing-requires c κs = search needs
+governing-set-0-requires : tie.Need-governing-set-0-requires
+governing-set-0-requires c κs = search needs
 
 mangle-by-requires : tie.Need-mangle-by-requires
 mangle-by-requires c κs = search needs
@@ -26,7 +26,7 @@ returns c =
     let entry = c .before .before .before .before .before .before .before .before .before .before .before .before .args in
     let pins = c .before .before .before .before .before .before .before .pins-from in
     let levels = c .before .before .before .before .before .levels-from in
-    let set = c .before .before .before .before .governing in
+    let set = c .before .before .before .before .governing-set-0 in
     let r = c .before .before .before .mangle-by .result in
     let told =
     mangled (entry .pins-number) (entry .rom-pins) (entry .addr .now) (entry .control .now) (entry .served) (entry .set-rows .now) (entry .rom-rows .now) (entry .address)
@@ -38,7 +38,7 @@ returns-2 c =
     let entry = c .before .before .before .before .before .before .before .before .before .before .before .args in
     let pins = c .before .before .before .before .before .before .pins-from in
     let levels = c .before .before .before .before .levels-from in
-    let set = c .before .before .before .governing in
+    let set = c .before .before .before .governing-set-0 in
     let r = c .before .before .mangle-by .result in
     let told =
     mangled (entry .pins-number) (entry .rom-pins) (entry .addr .now) (entry .control .now) (entry .served) (entry .set-rows .now) (entry .rom-rows .now) (entry .address)
@@ -52,7 +52,7 @@ onerom-mangle-spec =
     (tie.spec
     pins-from-requires
     levels-from-requires
-    governing-requires
+    governing-set-0-requires
     mangle-by-requires
     cast-result
     returns

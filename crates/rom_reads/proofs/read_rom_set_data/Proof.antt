@@ -4,7 +4,7 @@ use mathlib.Core.Path.{_≡_, sym, ap, _∙_}
 use mathlib.Core.List.{[]}
 use lib.ListN.{length}
 use borrow.Author.Needs.{needs}
-use Rattle.prog.specs.Read.{part}
+use Rattle.window.specs.Laws.{part}
 use Rattle.info.specs.Reads.{range, Reply, bufferLeft}
 use Rattle.rom_reads.specs.Calls.{lentBy, countedOf}
 use Rattle.rom_reads.specs.Steps.{read-beyond, found-inside, left-as-was, data-refused, data-82, data-read}

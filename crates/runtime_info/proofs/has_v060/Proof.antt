@@ -3,7 +3,7 @@ use Rattle.runtime_info.proofs.has_v060.Statement.{statement}
 use Rattle.runtime_info.proofs.has_v060.Tie as tie
 use Rattle.runtime_info.proofs.has_v060.Reads as reads
 use Rattle.runtime_info.proofs.has_v060.Lts as lts
-use Rattle.le.proofs.both.Reads as both-reads
+use Rattle.base.proofs.both.Reads as both-reads
 use Rattle.le.proofs.u8_at.Reads as u8-at-reads
 use Rattle.runtime_info.proofs.known_fire_vreg.Reads as known-fire-vreg-reads
 use Rattle.runtime_info.proofs.reaches_end.Reads as reaches-end-reads

@@ -3,7 +3,7 @@ use Rattle.runtime_info.proofs.has_v062.Statement.{statement}
 use Rattle.runtime_info.proofs.has_v062.Tie as tie
 use Rattle.runtime_info.proofs.has_v062.Reads as reads
 use Rattle.runtime_info.proofs.has_v062.Lts as lts
-use Rattle.le.proofs.both.Reads as both-reads
+use Rattle.base.proofs.both.Reads as both-reads
 use Rattle.le.proofs.u8_at.Reads as u8-at-reads
 use Rattle.runtime_info.proofs.known_bit_mode.Reads as known-bit-mode-reads
 use Rattle.runtime_info.proofs.known_fire_serve_mode.Reads as known-fire-serve-mode-reads

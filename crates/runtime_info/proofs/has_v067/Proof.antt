@@ -3,7 +3,7 @@ use Rattle.runtime_info.proofs.has_v067.Statement.{statement}
 use Rattle.runtime_info.proofs.has_v067.Tie as tie
 use Rattle.runtime_info.proofs.has_v067.Reads as reads
 use Rattle.runtime_info.proofs.has_v067.Lts as lts
-use Rattle.le.proofs.both.Reads as both-reads
+use Rattle.base.proofs.both.Reads as both-reads
 use Rattle.le.proofs.u8_at.Reads as u8-at-reads
 use Rattle.runtime_info.proofs.known_limp_mode.Reads as known-limp-mode-reads
 use Rattle.runtime_info.proofs.reaches_end.Reads as reaches-end-reads

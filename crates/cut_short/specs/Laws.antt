@@ -1,0 +1,4 @@
+pub mod Cuts
+pub mod CutOpening
+pub mod CutReads
+pub mod Proof

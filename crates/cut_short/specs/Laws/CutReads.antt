@@ -1,0 +1,73 @@
+-- ROM reads on an image cut short: what its board accepts, the whole image's accepts alike.
+-- Assumes nothing.
+use Prim.Native.Nat.{ℕ, _+_, _*_}
+use native.Mathlib.Omega.{arith}
+use mathlib.Core.Path.{_≡_, refl, sym, ap, _∙_}
+use mathlib.Core.Logic.{_⊎_, inl, inr, ⊎-elim}
+use mathlib.Core.Bool.{Bool, true, false, _||_}
+use mathlib.Core.List.{List, [], _∷_, _++_, map}
+use lib.Dec.{ltb, eqb}
+use lib.ListN.{length, take, getD, drop, length-append, length-drop, length-map}
+use Rattle.base.specs.Choice.{pick}
+use Rattle.window.specs.Window.{baseAfter}
+use Rattle.prog.specs.Prog.{run}
+use Rattle.prog.specs.Honest.{honest-kept}
+use Rattle.text.specs.declared.Text.{Text}
+use Rattle.walk.specs.Walk.{Rom, RomSet, romsOf}
+use Rattle.walk.specs.Rows.{romWidth, setRows, romFront, romRows, overwritten}
+use Rattle.walk.specs.RowLaws.{rom-rows-length, type-words}
+use Rattle.info.specs.Lent.{Lent}
+use Rattle.info.specs.Reads.{Bytes, RomRead, lengthOf, readP, Reply, replyOf, romRead}
+use Rattle.info.specs.Like.{Like, read-like, read-honest, read-unserved}
+use Rattle.fw_parser.specs.declared.Settings.{Settings}
+use Rattle.fw_parser.specs.declared.SdrrInfo.{SdrrInfo}
+use Rattle.cut_short.specs.Shown.{Kept}
+use Rattle.cut_short.specs.FirstRead.{lentOf}
+
+-- ---- the rows
+
+same-count : (rs ss : List Rom) → map romFront rs ≡ map romFront ss → length rs ≡ length ss
+same-count rs ss e = sym (length-map rs romFront) ∙ ap length e ∙ length-map ss romFront
+
+module _ (rs ss : List Rom) (ts us : List Text) (e : map romFront rs ≡ map romFront ss) (lent : List ℕ) where
+  same-words : length (romRows rs ts) ≡ length (romRows ss us)
+  same-words = rom-rows-length rs ts ∙ ap (λ (n : ℕ). romWidth * n) (same-count rs ss e) ∙ sym (rom-rows-length ss us)
+
+  pub rows-length : length (overwritten (romRows rs ts) lent) ≡ length (overwritten (romRows ss us) lent)
+  rows-length =
+      length-append (romRows rs ts) (drop (length (romRows rs ts)) lent)
+      ∙ (rw same-words refl)
+      ∙ sym (length-append (romRows ss us) (drop (length (romRows ss us)) lent))
+
+  pub rows-types : (i : ℕ) → getD (overwritten (romRows rs ts) lent) (romWidth * i) 0 ≡ getD (overwritten (romRows ss us) lent) (romWidth * i) 0
+  rows-types i =
+      type-words rs ss ts us (drop (length (romRows rs ts)) lent) e i
+      ∙ ap (λ (n : ℕ). getD (romRows ss us ++ drop n lent) (romWidth * i) 0) same-words
+
+-- ---- boards that show the same but for names and ended items
+
+module _ {r r′ : SdrrInfo} {ss ss′ : List RomSet} {names names′ : List Text} (k : Kept r ss names r′ ss′ names′) (sets roms : List ℕ) where
+  pub kept-like :
+      (r .«rom_sets» ≡ r′ .«rom_sets») × (setRows ss ≡ setRows ss′) × (map romFront (romsOf ss) ≡ map romFront (romsOf ss′))
+      → Like
+      (lentOf r (overwritten (setRows ss) sets) (overwritten (romRows (romsOf ss) names) roms))
+      (lentOf r′ (overwritten (setRows ss′) sets) (overwritten (romRows (romsOf ss′) names′) roms))
+  kept-like e =
+      record {
+        lines = ap (λ f. f .«stm_line») (k .header);
+        pins = k .pins;
+        served = ap (λ i. i .served) (e .0);
+        set-words = ap (λ (w : List ℕ). overwritten w sets) (e .1);
+        rom-rows = rows-length (romsOf ss) (romsOf ss′) names names′ (e .2) roms;
+        types = rows-types (romsOf ss) (romsOf ss′) names names′ (e .2) roms;
+      }
+
+-- ---- a read on the cut image, and on the whole
+
+module _ {l m : Lent} (like : Like l m) (base : ℕ) (r : RomRead) (x : List ℕ) (k : ℕ) where
+  pub read-kept : run (readP base l 0 r) (take k x) .number ≡ 0 → run (readP base l 0 r) (take k x) ≡ run (readP base m 0 r) x
+  read-kept e =
+      let a : run (readP base l 0 r) (take k x) ≡ run (readP base m 0 r) (take k x) = read-like like base 0 r (take k x) e in
+      a
+      ∙ ⊎-elim (λ (h : run (readP base m 0 r) (take k x) .number ≡ 2). let f = ap (λ (b : Bytes). b .number) (sym a) ∙ e in absurd (omega arith)) (λ h. h)
+      (honest-kept (read-honest base m 0 r) x k)

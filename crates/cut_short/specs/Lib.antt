@@ -1,0 +1,5 @@
+pub mod Shown
+pub mod FirstRead
+pub mod Demand3
+pub mod Laws
+pub mod Promises

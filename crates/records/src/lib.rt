@@ -1,0 +1,95 @@
+// The records at the header's pointers.
+use extra_info::ExtraInfoItem;
+use header::SdrrInfoHeader;
+use metadata::MetadataItem;
+use pins::PinsItem;
+use text::Text;
+use version::FirmwareVersion;
+ghost use mathlib.Core.Path.{_≡_};
+ghost use Rattle.prog.specs.Prog.{run};
+ghost use Rattle.text.specs.Text.{textP};
+ghost use Rattle.extra_info.specs.ExtraInfo.{extraInfoP};
+ghost use Rattle.pins.specs.Pins.{pinsP};
+ghost use Rattle.records.specs.Looked.{lookP};
+ghost use Rattle.records.specs.Records.{sourceOf, recordsOf};
+
+// The image, and the base in force: what the readers below are given. Each leaves the work to a function on the slice and the number.
+struct Window<'a> {
+    image: &'a [u8],
+    base: u32,
+}
+
+// Metadata's item, and what the walk goes by: the header's count and pointer below 0.5.0, metadata's from then on.
+pub struct SetsSource {
+    pub metadata: MetadataItem,
+    pub ended: bool,
+    pub rom_set_count: u8,
+    pub rom_sets_ptr: u32,
+}
+
+pub struct Records {
+    pub build_date: Text,
+    pub hw_rev: Text,
+    pub extra_info: ExtraInfoItem,
+    pub sets: SetsSource,
+    pub pins: PinsItem,
+}
+
+// The version's test stands here, in a function on the slice, so that the readers below have no branch.
+fn sets_source(image: &[u8], base: u32, header: SdrrInfoHeader) -> SetsSource
+    ensures { λ r. ⌜ r ≡ sourceOf header (run (lookP base header) (now (image .entry))) ⌝ }
+{
+    let fields = header.fields;
+    if !version::from_0_5_0(fields.version) {
+        return SetsSource {
+            metadata: MetadataItem::NotLookedFor,
+            ended: false,
+            rom_set_count: header.rom_set_count,
+            rom_sets_ptr: header.rom_sets_ptr,
+        };
+    }
+    let m = metadata::read_one_rom_metadata_header_info(image, base, header.rom_sets_ptr);
+    SetsSource {
+        metadata: MetadataItem::Looked(m.number),
+        ended: m.number == 2,
+        rom_set_count: m.rom_set_count,
+        rom_sets_ptr: m.rom_sets_ptr,
+    }
+}
+
+fn string_at<'a>(w: Window<'a>, ptr: u32) -> Text
+    ensures { λ r. ⌜ r ≡ run (textP (w .entry .base) ptr) (now (w .entry .image)) ⌝ }
+{
+    text::read_string_at_ptr(w.image, w.base, ptr)
+}
+
+fn extra_info_at<'a>(w: Window<'a>, ptr: u32, version: FirmwareVersion) -> ExtraInfoItem
+    ensures { λ r. ⌜ r ≡ run (extraInfoP (w .entry .base) ptr version) (now (w .entry .image)) ⌝ }
+{
+    extra_info::read_extra_info(w.image, w.base, ptr, version)
+}
+
+fn metadata_at<'a>(w: Window<'a>, header: SdrrInfoHeader) -> SetsSource
+    ensures { λ r. ⌜ r ≡ sourceOf header (run (lookP (w .entry .base) header) (now (w .entry .image))) ⌝ }
+{
+    sets_source(w.image, w.base, header)
+}
+
+fn pins_at<'a>(w: Window<'a>, ptr: u32) -> PinsItem
+    ensures { λ r. ⌜ r ≡ run (pinsP (w .entry .base) ptr) (now (w .entry .image)) ⌝ }
+{
+    pins::read_pins(w.image, w.base, ptr)
+}
+
+pub fn read_records(image: &[u8], base: u32, header: SdrrInfoHeader) -> Records
+    ensures { λ r. ⌜ r ≡ recordsOf base header (now (image .entry)) ⌝ }
+{
+    let w = Window { image, base };
+    Records {
+        build_date: string_at(w, header.build_date_ptr),
+        hw_rev: string_at(w, header.hw_rev_ptr),
+        extra_info: extra_info_at(w, header.extra_ptr, header.fields.version),
+        sets: metadata_at(w, header),
+        pins: pins_at(w, header.pins_ptr),
+    }
+}

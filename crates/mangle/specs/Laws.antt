@@ -134,6 +134,13 @@ mangled-lt pins count type address set =
     let h : gather (m .map) w < 2 ^ 16 = rw (map-length pins count type) at (gather-lt (m .map) w) in
     pick-lt (eqb (mangleNumber (m .number) type address) 0) (gather (m .map) w) 0 (2 ^ 16) h (pow-pos 16)
 
+-- Mangling is placing the input word under the map, which does not depend on address and levels: a caller may make the map once, as the crate
+-- pin_map does, and use it for many addresses.
+pub by-map : (pins : SdrrPins) (count : ℕ) (type : SdrrRomType) (address : ℕ) (set : SdrrCsSet)
+    → mangleCore pins count type address set ≡ mangleBy (pinMap pins count type) count type address (levels set)
+unfolding mangleCore mangleOf
+by-map pins count type address set = refl
+
 -- with no ROM it is 74, whatever the type
 pub no-rom : (pins : SdrrPins) (type : SdrrRomType) (address : ℕ) (set : SdrrCsSet) → mangleCore pins 0 type address set ≡ record { number = 74; value = 0 }
 unfolding mangleCore mangleOf mangleBy mangleNumber pinMap mapOf mapBy mapNumber

@@ -271,3 +271,20 @@ word-core pins count type address set =
     let w = inputWord type count (levels set) address in
     rw (placed-gather ps w, placed-gather ps allHigh)
     (word-mangles (addressMap ps) (p .x1) (p .x2) (controlPins p) count type address (levels set) (address-length ps 0 unmapped))
+
+-- the map's number, with the pins that address bits are on
+pub word-number : (pins : SdrrPins) (count : ℕ) (type : SdrrRomType) (word : ℕ)
+    → wordNumber
+    (placed (map (lowered (leastPin pins)) (pins .addr)) word .mapped)
+    (baseZero pins .x1)
+    (baseZero pins .x2)
+    (controlPins (baseZero pins))
+    count
+    type
+    ≡ pinMap pins count type .number
+unfolding pinMap mapOf mapBy baseZero loweredBy
+word-number pins count type word =
+    let p = baseZero pins in
+    let ps = map (lowered (leastPin pins)) (pins .addr) in
+    rw (placed-gather ps allHigh)
+    (number-mapped (addressMap ps) (p .x1) (p .x2) (controlPins p) count type (address-length ps 0 unmapped))

@@ -11,6 +11,7 @@ use types::SdrrRomType;
 ghost use mathlib.Core.Path.{_≡_};
 ghost use Rattle.types.specs.Types.{isHigh};
 ghost use Rattle.mangle.specs.Mangle.{levels, inputWord, mangleNumber, mangleCore};
+ghost use Rattle.mangle.specs.PinMap.{pinMap};
 ghost use Rattle.mangle.specs.Demangle.{allBelow, demangle};
 
 // What mangling goes by for a type of ROM. The mask is the largest address. cs1 to ce say to which input bit the
@@ -128,6 +129,18 @@ pub fn mangle_core(
         address,
         word,
     )
+}
+
+// The number of a pins record's map, 72 to 76 or 0. Which pins have an address bit does not depend on the word.
+pub fn pin_map_number(pins: SdrrPins, rom_count: u32, rom_type: SdrrRomType) -> u8
+    ensures { λ r. ⌜ r ≡ pinMap pins «rom_count» «rom_type» .number ⌝ }
+{
+    let m = base_zero::least_pin(pins);
+    let k = base_zero::control_least(m, pins);
+    let addr = pins.addr;
+    let a = map::address_pins(m, addr, 0);
+    let controls = [pins.cs1, pins.cs2, pins.cs3, pins.oe, pins.ce];
+    map::map_number(k, a.mapped, pins.x1, pins.x2, controls, rom_count, rom_type)
 }
 
 fn all_below(n: u8, pins: &[u8]) -> bool

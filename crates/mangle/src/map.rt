@@ -217,7 +217,7 @@ fn x_taken(several: bool, mapped: u32, x1: u8, x2: u8) -> bool
 }
 
 // X1 and X2 are tested before either is written.
-fn map_number(
+pub(crate) fn map_number(
     k: u8,
     mapped: u32,
     x1: u8,

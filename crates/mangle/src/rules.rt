@@ -96,7 +96,7 @@ pub(crate) fn is_28c16(rom_type: SdrrRomType) -> bool
 }
 
 // The input bits of the control pins, in the order in which they are written: CS1, CS2, CS3, OE, CE; 255: none.
-pub(crate) fn control_bits(rom_type: SdrrRomType) -> [u8; 5]
+pub fn control_bits(rom_type: SdrrRomType) -> [u8; 5]
     ensures { λ r. ⌜ r ≡ controlBits «rom_type» ⌝ }
 {
     let r = rules_of(rom_type);

@@ -26,15 +26,15 @@ pub fn can_read(image: &[u8], base: u32, address: u64, n: usize) -> bool
 pub fn image_from(image: &[u8], base: u32, address: u64) -> &[u8]
     ensures { λ r. ⌜ now r ≡ onFrom (now (image .entry)) base address ⌝ }
 {
-    let from = base as u64;
-    if address < from {
+    let start = base as u64;
+    if address < start {
         return image;
     }
-    let offset = (address - from) as usize;
-    if image.len() < offset {
+    let at = (address - start) as usize;
+    if image.len() < at {
         return &image[..0];
     }
-    &image[offset..]
+    &image[at..]
 }
 
 // 3, 2 or 0: what n bytes at a pointer are refused with.

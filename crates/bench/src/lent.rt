@@ -1,43 +1,38 @@
 // The rows of an opened board: what is looked up in them, and what reads go by.
 use board::Board;
+use rows::RomWord;
+use rows::SetWord;
 use text::Text;
 ghost use mathlib.Core.Path.{_≡_};
+ghost use Prim.Native.Nat.{_*_};
 ghost use lib.ListN.{length};
+ghost use Rattle.rows.specs.LentRows.{setWidth, romWidth};
 
-// Rows for 255 sets of eight words, and for 4,096 ROMs of seven. The contracts give the lengths alone.
-pub(crate) fn set_space() -> [u32; 2040]
-    ensures { λ r. ⌜ 2040 ≡ length r ⌝ }
+// Rows for 255 sets, and for 4,096 ROMs. The contracts give the lengths alone.
+pub(crate) fn set_space() -> [u32; 255 * rows::SET_WORDS]
+    ensures { λ r. ⌜ 255 * setWidth ≡ length r ⌝ }
 {
-    [0; 2040]
+    [0; 255 * rows::SET_WORDS]
 }
 
-pub(crate) fn rom_space() -> [u32; 28672]
-    ensures { λ r. ⌜ 28672 ≡ length r ⌝ }
+pub(crate) fn rom_space() -> [u32; 4096 * rows::ROM_WORDS]
+    ensures { λ r. ⌜ 4096 * romWidth ≡ length r ⌝ }
 {
-    [0; 28672]
-}
-
-// A word of a ROM row; 0 past the end.
-pub(crate) fn rom_word(rom_rows: &[u32], row: u32, word: u8) -> u32 {
-    let at = 7 * (row as usize) + word as usize;
-    if rom_rows.len() <= at {
-        return 0;
-    }
-    rom_rows[at]
+    [0; 4096 * rows::ROM_WORDS]
 }
 
 // A ROM's name: its part of the dump, or the number of why it is missing.
 pub(crate) fn name_of(rom_rows: &[u32], row: u32) -> Text {
     Text {
-        number: (rom_word(rom_rows, row, 6) % 256) as u8,
-        offset: rom_word(rom_rows, row, 4),
-        length: rom_word(rom_rows, row, 5),
+        number: (rows::rom_word(rom_rows, row, RomWord::NameReason) % 256) as u8,
+        offset: rows::rom_word(rom_rows, row, RomWord::NameOffset),
+        length: rows::rom_word(rom_rows, row, RomWord::NameLength),
     }
 }
 
 // The row of a set's ROM k.
 pub(crate) fn rom_row(set_rows: &[u32], set: u32, k: u32) -> u32 {
-    let first = rows::set_word(set_rows, set, 2);
+    let first = rows::set_word(set_rows, set, SetWord::FirstRom);
     if 4294967295 - k < first {
         return 4294967295;
     }
@@ -45,7 +40,7 @@ pub(crate) fn rom_row(set_rows: &[u32], set: u32, k: u32) -> u32 {
 }
 
 pub(crate) fn first_type(set_rows: &[u32], rom_rows: &[u32], set: u32) -> u32 {
-    rom_word(rom_rows, rom_row(set_rows, set, 0), 0)
+    rows::rom_word(rom_rows, rom_row(set_rows, set, 0), RomWord::Type)
 }
 
 // Reads the byte at an offset of a set, or no byte where the set is empty: 0, or the number of the refusal.

@@ -9,6 +9,7 @@ use board::Board;
 use info::SdrrAddress;
 use libc::STDERR_FILENO;
 use libc::STDOUT_FILENO;
+use rows::SetWord;
 use types::SdrrCsSet;
 ghost use Prim.Native.Nat.{_≤_};
 ghost use mathlib.Core.Path.{_≡_};
@@ -43,8 +44,8 @@ fn logical_number(board: Board, set_rows: &[u32], rom_rows: &[u32], set: u32) ->
     if size.number != 0 {
         return size.number;
     }
-    let count = rows::set_word(set_rows, set, 3);
-    if count != rows::set_word(set_rows, 0, 3) {
+    let count = rows::set_word(set_rows, set, SetWord::RomCount);
+    if count != rows::set_word(set_rows, 0, SetWord::RomCount) {
         return 113;
     }
     if count == 0 {
@@ -187,7 +188,7 @@ pub(crate) fn raw(request: Request, image: &[u8], board: Board, set_rows: &[u32]
         refuse::part(request, number, b", set %d", &[request.set]);
         return;
     }
-    let size = rows::set_word(set_rows, request.set, 1);
+    let size = rows::set_word(set_rows, request.set, SetWord::Size);
     let is_written = raw_all(image, board, set_rows, request.set, size);
     done(request, is_written, size);
 }

@@ -8,6 +8,8 @@ use super::say;
 use board::Board;
 use fw_parser::SetsItem;
 use libc::STDOUT_FILENO;
+use rows::RomWord;
+use rows::SetWord;
 use text::Text;
 
 fn no_name(is_machine: bool, set: u32, k: u32, n: u32) {
@@ -38,10 +40,10 @@ fn rom_name(is_machine: bool, image: &[u8], set: u32, k: u32, name: Text) {
 }
 
 fn rom(is_machine: bool, rom_rows: &[u32], row: u32, set: u32, k: u32) {
-    let t = lent::rom_word(rom_rows, row, 0);
-    let c1 = lent::rom_word(rom_rows, row, 1);
-    let c2 = lent::rom_word(rom_rows, row, 2);
-    let c3 = lent::rom_word(rom_rows, row, 3);
+    let t = rows::rom_word(rom_rows, row, RomWord::Type);
+    let c1 = rows::rom_word(rom_rows, row, RomWord::Cs1);
+    let c2 = rows::rom_word(rom_rows, row, RomWord::Cs2);
+    let c3 = rows::rom_word(rom_rows, row, RomWord::Cs3);
     if is_machine {
         form(
             STDOUT_FILENO,
@@ -58,7 +60,7 @@ fn rom(is_machine: bool, rom_rows: &[u32], row: u32, set: u32, k: u32) {
 }
 
 fn roms(is_machine: bool, image: &[u8], set_rows: &[u32], rom_rows: &[u32], set: u32) {
-    let count = rows::set_word(set_rows, set, 3);
+    let count = rows::set_word(set_rows, set, SetWord::RomCount);
     let mut k = 0;
     while k < count {
         let row = lent::rom_row(set_rows, set, k);
@@ -70,17 +72,17 @@ fn roms(is_machine: bool, image: &[u8], set_rows: &[u32], rom_rows: &[u32], set:
 
 // For a person: further lines where a set has several ROMs, or the dump does not hold all of its bytes.
 fn set_for_person(set_rows: &[u32], set: u32, data: u32) {
-    let at = rows::set_word(set_rows, set, 0);
-    let size = rows::set_word(set_rows, set, 1);
-    let count = rows::set_word(set_rows, set, 3);
-    let serve = rows::set_word(set_rows, set, 4);
+    let at = rows::set_word(set_rows, set, SetWord::DataPointer);
+    let size = rows::set_word(set_rows, set, SetWord::Size);
+    let count = rows::set_word(set_rows, set, SetWord::RomCount);
+    let serve = rows::set_word(set_rows, set, SetWord::Serve);
     form(
         STDOUT_FILENO,
         b"set %d: %d bytes at %x, %r, serving %s\n",
         &[set, size, at, count, serve],
     );
     if 1 < count {
-        let state = rows::set_word(set_rows, set, 5);
+        let state = rows::set_word(set_rows, set, SetWord::State);
         form(STDOUT_FILENO, b"  multi-ROM set, CS1 %c\n", &[state]);
     }
     if data != 0 {
@@ -94,8 +96,8 @@ fn set_for_person(set_rows: &[u32], set: u32, data: u32) {
 
 // Size and data pointer, and whether the dump holds the bytes.
 fn data_for_script(set_rows: &[u32], set: u32, data: u32) {
-    let at = rows::set_word(set_rows, set, 0);
-    let size = rows::set_word(set_rows, set, 1);
+    let at = rows::set_word(set_rows, set, SetWord::DataPointer);
+    let size = rows::set_word(set_rows, set, SetWord::Size);
     form(
         STDOUT_FILENO,
         b"set.%d.size %d\nset.%d.data %x\nset.%d.data.number %d\n",
@@ -107,11 +109,11 @@ fn data_for_script(set_rows: &[u32], set: u32, data: u32) {
 }
 
 fn set_for_script(set_rows: &[u32], set: u32) {
-    let count = rows::set_word(set_rows, set, 3);
-    let serve = rows::set_word(set_rows, set, 4);
-    let state = rows::set_word(set_rows, set, 5);
-    let config = rows::set_word(set_rows, set, 6);
-    let overrides = rows::set_word(set_rows, set, 7);
+    let count = rows::set_word(set_rows, set, SetWord::RomCount);
+    let serve = rows::set_word(set_rows, set, SetWord::Serve);
+    let state = rows::set_word(set_rows, set, SetWord::State);
+    let config = rows::set_word(set_rows, set, SetWord::Config);
+    let overrides = rows::set_word(set_rows, set, SetWord::Overrides);
     form(
         STDOUT_FILENO,
         b"set.%d.serve %d\nset.%d.multi_rom_state %d\nset.%d.config %x\nset.%d.overrides %x\nset.%d.roms %d\n",

@@ -11,6 +11,7 @@ use board::Board;
 use fw_parser::Opening;
 use fw_parser::Settings;
 use libc::STDOUT_FILENO;
+use rows::RomWord;
 
 // What the cuts of a board came to: cuts refused as ended, cuts that show the whole's report and rows, cuts with an item that is ended,
 // reads that a cut accepted, cuts and reads of which demand 3 does not hold; and a sum over all answers.
@@ -74,37 +75,61 @@ fn items_hold(whole: &[u32; 122], cut: &[u32; 122]) -> bool {
     item_holds(whole, cut, 44, 78)
 }
 
+// Whether two ROM rows agree in a word.
+fn same_word(a: &[u32], b: &[u32], word: RomWord) -> bool {
+    rows::rom_word(a, 0, word) == rows::rom_word(b, 0, word)
+}
+
+// Whether the reason of a ROM row's name is that it is ended.
+fn name_ends(row: &[u32]) -> bool {
+    rows::rom_word(row, 0, RomWord::NameReason) == 2
+}
+
 // A ROM row: type and states are the whole's, and its name is ended or the whole's.
 fn rom_row_holds(whole: &[u32], cut: &[u32]) -> bool {
-    if !words::same(whole, cut, 0, 4) {
+    if !same_word(whole, cut, RomWord::Type) {
         return false;
     }
-    if words::at(cut, 6) == 2 {
+    if !same_word(whole, cut, RomWord::Cs1) {
+        return false;
+    }
+    if !same_word(whole, cut, RomWord::Cs2) {
+        return false;
+    }
+    if !same_word(whole, cut, RomWord::Cs3) {
+        return false;
+    }
+    if name_ends(cut) {
         return true;
     }
     words::same_all(whole, cut)
 }
 
+// The ROM row from an index on.
+fn row_at(roms: &[u32], at: usize) -> &[u32] {
+    words::part(roms, at, rows::ROM_WORDS)
+}
+
 // ROM rows and, where they end, what was in the buffer before.
 fn rom_rows_hold(whole: &[u32], cut: &[u32]) -> bool {
     let mut at = 0;
-    while 7 <= cut.len() - at {
-        if !rom_row_holds(words::part(whole, at, 7), words::part(cut, at, 7)) {
+    while rows::ROM_WORDS <= cut.len() - at {
+        if !rom_row_holds(row_at(whole, at), row_at(cut, at)) {
             return false;
         }
-        at += 7;
+        at += rows::ROM_WORDS;
     }
     words::same_all(words::from(whole, at), words::from(cut, at))
 }
 
-// Whether the reason of one of the ROM rows' names is that it is ended.
+// Whether one of the ROM rows' names is ended.
 fn name_ended(roms: &[u32]) -> bool {
     let mut at = 0;
-    while 7 <= roms.len() - at {
-        if words::at(roms, at + 6) == 2 {
+    while rows::ROM_WORDS <= roms.len() - at {
+        if name_ends(row_at(roms, at)) {
             return true;
         }
-        at += 7;
+        at += rows::ROM_WORDS;
     }
     false
 }

@@ -9,6 +9,7 @@ use board::Board;
 use fw_parser::Opening;
 use fw_parser::SdrrInfo;
 use fw_parser::Settings;
+use rows::SetWord;
 
 fn settings(given: &[u8]) -> Settings {
     Settings {
@@ -54,13 +55,22 @@ fn rom_rows(sets: &[u32], served: u32) -> u32 {
     if served == 0 {
         return 0;
     }
-    let last = 8 * ((served - 1) as usize);
-    words::at(sets, last + 2) % 65536 + words::at(sets, last + 3) % 256
+    let first = rows::set_word(sets, served - 1, SetWord::FirstRom);
+    let count = rows::set_word(sets, served - 1, SetWord::RomCount);
+    first % 65536 + count % 256
 }
 
 fn show_all_rows(sets: &[u32], roms: &[u32], served: u32) {
-    show_rows(sets, 8, 8 * (served as usize));
-    show_rows(roms, 7, 7 * (rom_rows(sets, served) as usize));
+    show_rows(
+        sets,
+        rows::SET_WORDS as u8,
+        rows::SET_WORDS * (served as usize),
+    );
+    show_rows(
+        roms,
+        rows::ROM_WORDS as u8,
+        rows::ROM_WORDS * (rom_rows(sets, served) as usize),
+    );
 }
 
 // Shows the answer, and runs the calls.

@@ -1,6 +1,8 @@
 // Buffers of words and bytes: filled, summed, compared.
 ghost use mathlib.Core.Path.{_≡_};
+ghost use Prim.Native.Nat.{_*_};
 ghost use lib.ListN.{length};
+ghost use Rattle.rows.specs.LentRows.{romWidth};
 
 // Each contract gives the length alone, so that no caller's proof computes the list.
 pub(crate) fn input_space() -> [u8; 65536]
@@ -17,10 +19,10 @@ pub(crate) fn set_space() -> [u32; 4096]
 }
 
 // Rows of 255 times 255 ROMs, and a tail.
-pub(crate) fn rom_space() -> [u32; 458752]
-    ensures { λ r. ⌜ 458752 ≡ length r ⌝ }
+pub(crate) fn rom_space() -> [u32; 65536 * rows::ROM_WORDS]
+    ensures { λ r. ⌜ 65536 * romWidth ≡ length r ⌝ }
 {
-    [0; 458752]
+    [0; 65536 * rows::ROM_WORDS]
 }
 
 fn word_pattern(i: usize) -> u32 {

@@ -19,7 +19,8 @@ use Rattle.header.specs.declared.SdrrInfoHeader.{SdrrInfoHeader}
 use Rattle.header.specs.declared.HeaderAnswer.{HeaderAnswer}
 use Rattle.header.specs.Header.{headerP}
 use Rattle.walk.specs.Walk.{RomSet, romsOf}
-use Rattle.walk.specs.Rows.{setWidth, romWidth, shortSets, shortRoms, overwritten}
+use Rattle.rows.specs.LentRows.{setWidth, romWidth}
+use Rattle.walk.specs.Rows.{shortSets, shortRoms, overwritten}
 use Rattle.fw_parser.specs.declared.Settings.{Settings}
 use Rattle.fw_parser.specs.declared.SdrrInfo.{SdrrInfo}
 use Rattle.fw_parser.specs.Opening.{Items, Row, setsOf, reportOf, itemsOf, rowP, Opened, refused, opened, verdict, afterHeader, openP, opening}

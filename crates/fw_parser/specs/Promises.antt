@@ -10,7 +10,8 @@ use mathlib.Core.List.{List}
 use lib.ListN.{length}
 use Rattle.text.specs.declared.Text.{Text}
 use Rattle.walk.specs.Walk.{RomSet, romsOf}
-use Rattle.walk.specs.Rows.{setWidth, romWidth, setRows, romRows}
+use Rattle.rows.specs.LentRows.{setWidth, romWidth}
+use Rattle.walk.specs.Rows.{setRows, romRows}
 use Rattle.walk.specs.RowLaws.{set-rows-length, rom-rows-length}
 use Rattle.fw_parser.specs.declared.Settings.{Settings}
 use Rattle.fw_parser.specs.declared.SdrrInfo.{SdrrInfo}
@@ -51,7 +52,7 @@ module _ (s : Settings) (sets roms x : List ℕ) where
       go (refused n) e i = record { report = rw e; set-rows = rw e; rom-rows = rw e }
       go (opened r ss names) e i = absurd (i refl)
 
-  -- An accepted opening changes only the rows that it lists, 8 words a set and 7 a ROM: they stand at the front, and every word after them
+  -- An accepted opening changes only the rows that it lists: they stand at the front, and every word after them
   -- is as it was lent. It lists the sets that it serves.
   pub record Accepted : Type 0 where
     pub report : SdrrInfo

@@ -3,6 +3,7 @@ use mangle::Demangled;
 use mangle::Mangled;
 use pins::PinsItem;
 use pins::SdrrPins;
+use rows::SetWord;
 use types::SdrrCsSet;
 use types::SdrrRomType;
 ghost use mathlib.Core.Path.{_≡_};
@@ -37,8 +38,8 @@ fn unmangled_by(number: u8) -> Mangled
 fn lacks_first_rom(set_rows: &[u32], rom_rows: &[u32], set: u32) -> bool
     ensures { λ r. ⌜ r ≡ lacksFirstRom (now («set_rows» .entry)) (now («rom_rows» .entry)) «set» ⌝ }
 {
-    let count = rows::set_word(set_rows, set, 3);
-    let first = rows::set_word(set_rows, set, 2);
+    let count = rows::set_word(set_rows, set, SetWord::RomCount);
+    let first = rows::set_word(set_rows, set, SetWord::FirstRom);
     base::both(count != 0, rows::is_bad_rom_row(rom_rows, first))
 }
 
@@ -62,8 +63,8 @@ pub fn governing(set_rows: &[u32], rom_rows: &[u32], set: u32) -> GoverningSet
     if lacks_first_rom(set_rows, rom_rows, set) {
         return ungoverned_by(4);
     }
-    let rom_count = rows::set_word(set_rows, set, 3);
-    let rom_type = rows::rom_type(rom_rows, rows::set_word(set_rows, set, 2));
+    let rom_count = rows::set_word(set_rows, set, SetWord::RomCount);
+    let rom_type = rows::rom_type(rom_rows, rows::set_word(set_rows, set, SetWord::FirstRom));
     GoverningSet {
         number: 0,
         rom_count,

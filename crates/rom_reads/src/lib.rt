@@ -5,6 +5,7 @@ use info::SdrrAddress;
 use info::Valued;
 use mangle::Mangled;
 use pins::PinsItem;
+use rows::SetWord;
 ghost use mathlib.Core.Path.{_≡_};
 ghost use mathlib.Core.List.{[]};
 ghost use mathlib.Core.Bool.{true, false};
@@ -62,7 +63,7 @@ pub fn get_rom_set_size(served: u32, set_rows: &[u32], set: u32) -> Valued
     }
     Valued {
         number: 0,
-        value: rows::set_word(set_rows, set, 1),
+        value: rows::set_word(set_rows, set, SetWord::Size),
     }
 }
 
@@ -71,8 +72,8 @@ fn set_data(served: u32, set_rows: &[u32], set: u32) -> SetData
 {
     SetData {
         number: set_number(served, set_rows, set),
-        pointer: rows::set_word(set_rows, set, 0),
-        size: rows::set_word(set_rows, set, 1),
+        pointer: rows::set_word(set_rows, set, SetWord::DataPointer),
+        size: rows::set_word(set_rows, set, SetWord::Size),
     }
 }
 

@@ -9,6 +9,7 @@ use lib.ListN.{length}
 use lib.Seq.{sets, sets-eq}
 use borrow.Author.Tests.{lt-ltb, le-ltb}
 use Rattle.prog.specs.Prog.{run}
+use Rattle.rows.specs.LentRows.{setWidth, romWidth}
 use Rattle.text.specs.declared.Text.{Text}
 use Rattle.header.specs.declared.SdrrInfoFields.{SdrrInfoFields}
 use Rattle.version.specs.Version.{from060}
@@ -41,24 +42,24 @@ module _ {names : List Text} (ls lr : List ℕ) where
   refused (found ss) r e h = absurd (h (ap (λ (w : Walked). w .number) e))
 
   module _ (ss : List RomSet) where
-    short-sets : length ls < 8 * length ss → Leaves (found ss) names ls lr (refusedWith 44) ls lr
+    short-sets : length ls < setWidth * length ss → Leaves (found ss) names ls lr (refusedWith 44) ls lr
     unfolding replyOf setRowsLeft romRowsLeft
-    short-sets h = let e = lt-ltb (length ls) (8 * length ss) h in record { reply = rw e; set-rows = rw e; rom-rows = rw e }
+    short-sets h = let e = lt-ltb (length ls) (setWidth * length ss) h in record { reply = rw e; set-rows = rw e; rom-rows = rw e }
 
-    module _ (h : 8 * length ss ≤ length ls) where
-      short-roms : length lr < 7 * length (romsOf ss) → Leaves (found ss) names ls lr (refusedWith 45) ls lr
+    module _ (h : setWidth * length ss ≤ length ls) where
+      short-roms : length lr < romWidth * length (romsOf ss) → Leaves (found ss) names ls lr (refusedWith 45) ls lr
       unfolding replyOf setRowsLeft romRowsLeft
       short-roms i =
-          let e = le-ltb (length ls) (8 * length ss) h in
-          let f = lt-ltb (length lr) (7 * length (romsOf ss)) i in
+          let e = le-ltb (length ls) (setWidth * length ss) h in
+          let f = lt-ltb (length lr) (romWidth * length (romsOf ss)) i in
           record { reply = rw (e, f); set-rows = rw (e, f); rom-rows = rw (e, f) }
 
-      written : 7 * length (romsOf ss) ≤ length lr
+      written : romWidth * length (romsOf ss) ≤ length lr
           → Leaves (found ss) names ls lr (record { number = 0; «rom_count» = length (romsOf ss) }) (overwritten (setRows ss) ls) (overwritten (romRows (romsOf ss) names) lr)
       unfolding replyOf setRowsLeft romRowsLeft
       written i =
-          let e = le-ltb (length ls) (8 * length ss) h in
-          let f = le-ltb (length lr) (7 * length (romsOf ss)) i in
+          let e = le-ltb (length ls) (setWidth * length ss) h in
+          let f = le-ltb (length lr) (romWidth * length (romsOf ss)) i in
           record { reply = rw (e, f); set-rows = rw (e, f); rom-rows = rw (e, f) }
 
 -- ---- as the code goes through it
@@ -93,15 +94,15 @@ module _ (x : List ℕ) (base : ℕ) (f : SdrrInfoFields) (count pointer : ℕ) 
     many : length ss ≡ count
     many = sets-length x base (hasFilenames f) (from060 (f .version)) pointer count
 
-    pub left-44 : length ls < 8 * count → Leaving walk (refusedWith 44) ls lr
+    pub left-44 : length ls < setWidth * count → Leaving walk (refusedWith 44) ls lr
     left-44 h = as-found _ _ _ (short-sets ls lr ss (rw many h))
 
-    module _ (h : 8 * count ≤ length ls) where
-      pub left-45 : length lr < 7 * r .«rom_count» → Leaving walk (refusedWith 45) ls lr
+    module _ (h : setWidth * count ≤ length ls) where
+      pub left-45 : length lr < romWidth * r .«rom_count» → Leaving walk (refusedWith 45) ls lr
       left-45 i = as-found _ _ _ (short-roms ls lr ss (rw many h) (rw counted at i))
 
-      module _ (i : 7 * r .«rom_count» ≤ length lr) (filenames long : Bool) (a : filenames ≡ hasFilenames f) (b : long ≡ from060 (f .version)) where
-        pub enough : 7 * length (romsOf (setsAt x base filenames long pointer count)) ≤ length lr
+      module _ (i : romWidth * r .«rom_count» ≤ length lr) (filenames long : Bool) (a : filenames ≡ hasFilenames f) (b : long ≡ from060 (f .version)) where
+        pub enough : romWidth * length (romsOf (setsAt x base filenames long pointer count)) ≤ length lr
         enough = rw (a, b) (rw counted at i)
 
         pub left-written : (s t : List ℕ) → s ≡ sets ls 0 (rowsFrom 0 (setsAt x base filenames long pointer count))

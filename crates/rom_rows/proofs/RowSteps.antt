@@ -15,6 +15,7 @@ use Rattle.window.specs.Window.{onFrom}
 use Rattle.le.specs.Le.{u8At, u32At}
 use Rattle.prog.specs.Prog.{run}
 use Rattle.prog.specs.Run.{run-done}
+use Rattle.rows.specs.LentRows.{setWidth, romWidth}
 use Rattle.text.specs.declared.Text.{Text}
 use Rattle.text.specs.Text.{refused, textP}
 use Rattle.walk.specs.Walk.{noName, nameAt, Rom, RomSet, romOf, romsOf}
@@ -74,19 +75,19 @@ module _ (x : List ℕ) (base : ℕ) (filenames : Bool) (l : List ℕ) (at entry
   roms-written e = rw e
 
   pub roms-write : (left ≡ 0 → ⊥) → (r : List ℕ) → r ≡ namedRow x base (romAt x base filenames entry)
-      → sets (sets l at r) (at + 7) (namedRows x base (romsAt x base filenames (entry + 4) (left - 1))) ≡ sets l at (namedRows x base (romsAt x base filenames entry left))
+      → sets (sets l at r) (at + romWidth) (namedRows x base (romsAt x base filenames (entry + 4) (left - 1))) ≡ sets l at (namedRows x base (romsAt x base filenames entry left))
   unfolding namedRows romsAt
   roms-write h r v = go left h
     where
-      seven : length r ≡ 7
-      seven = rw v (named-row-length x base (romAt x base filenames entry))
+      wide : length r ≡ romWidth
+      wide = rw v (named-row-length x base (romAt x base filenames entry))
 
       go : (k : ℕ) → (k ≡ 0 → ⊥)
-          → sets (sets l at r) (at + 7) (namedRows x base (romsAt x base filenames (entry + 4) (k - 1))) ≡ sets l at (namedRows x base (romsAt x base filenames entry k))
+          → sets (sets l at r) (at + romWidth) (namedRows x base (romsAt x base filenames (entry + 4) (k - 1))) ≡ sets l at (namedRows x base (romsAt x base filenames entry k))
       go zero i = absurd (i refl)
       go (suc k) i =
           let e = sym (sets-append l r (namedRows x base (romsAt x base filenames (entry + 4) k)) at) in
-          rw (sub-one, ← v) (rw seven at e)
+          rw (sub-one, ← v) (rw wide at e)
 
 -- ---- so many sets
 
@@ -99,7 +100,7 @@ module _ (x : List ℕ) (base : ℕ) (filenames long : Bool) (l : List ℕ) (at 
   unfolding namedRows romsOf setsAt
   all-written e = rw e
 
-set-words-length : (first : ℕ) (s : List ℕ) → length (setWords first s) ≡ 8
+set-words-length : (first : ℕ) (s : List ℕ) → length (setWords first s) ≡ setWidth
 unfolding setWords
 set-words-length first s = refl
 
@@ -120,21 +121,21 @@ module _ (x : List ℕ) (base : ℕ) (filenames long : Bool) (address left : ℕ
       go (suc k) i = rw sub-one
 
   pub sets-write : (l : List ℕ) (at first : ℕ) (r k : List ℕ) → r ≡ setWords first s → k ≡ sets l at r
-      → sets k (at + 8) (rowsFrom (first + n) (setsAt x base filenames long (address + d) (left - 1)))
+      → sets k (at + setWidth) (rowsFrom (first + n) (setsAt x base filenames long (address + d) (left - 1)))
       ≡ sets l at (rowsFrom first (setsAt x base filenames long address left))
   sets-write l at first r k i j =
       let rest = setsAt x base filenames long (address + d) (left - 1) in
-      let eight : length r ≡ 8 = ap length i ∙ set-words-length first s in
+      let wide : length r ≡ setWidth = ap length i ∙ set-words-length first s in
       let c : first + n ≡ first + u8At s 12 = omega arith in
-      rw (split, rows-cons first s (romsAt x base filenames (u32At s 8) n) rest, ← i, c, j) (rw eight at (sym (sets-append l r (rowsFrom (first + u8At s 12) rest) at)))
+      rw (split, rows-cons first s (romsAt x base filenames (u32At s 8) n) rest, ← i, c, j) (rw wide at (sym (sets-append l r (rowsFrom (first + u8At s 12) rest) at)))
 
-  pub all-write : (l : List ℕ) (first t : ℕ) (k : List ℕ) → t ≡ u32At s 8 → k ≡ sets l (7 * first) (namedRows x base (romsAt x base filenames t n))
-      → sets k (7 * (first + n)) (namedRows x base (romsOf (setsAt x base filenames long (address + d) (left - 1))))
-      ≡ sets l (7 * first) (namedRows x base (romsOf (setsAt x base filenames long address left)))
+  pub all-write : (l : List ℕ) (first t : ℕ) (k : List ℕ) → t ≡ u32At s 8 → k ≡ sets l (romWidth * first) (namedRows x base (romsAt x base filenames t n))
+      → sets k (romWidth * (first + n)) (namedRows x base (romsOf (setsAt x base filenames long (address + d) (left - 1))))
+      ≡ sets l (romWidth * first) (namedRows x base (romsOf (setsAt x base filenames long address left)))
   unfolding romsOf setOf
   all-write l first t k i j =
       let rest = romsOf (setsAt x base filenames long (address + d) (left - 1)) in
       let roms = romsAt x base filenames (u32At s 8) n in
-      let size : length (namedRows x base roms) ≡ 7 * n = named-length x base roms ∙ rw (roms-length x base filenames (u32At s 8) n) in
-      let c : 7 * (first + n) ≡ 7 * first + length (namedRows x base roms) = omega arith in
-      rw (split, named-append x base roms rest, c, j, i) (sym (sets-append l (namedRows x base roms) (namedRows x base rest) (7 * first)))
+      let size : length (namedRows x base roms) ≡ romWidth * n = named-length x base roms ∙ rw (roms-length x base filenames (u32At s 8) n) in
+      let c : romWidth * (first + n) ≡ romWidth * first + length (namedRows x base roms) = omega arith in
+      rw (split, named-append x base roms rest, c, j, i) (sym (sets-append l (namedRows x base roms) (namedRows x base rest) (romWidth * first)))

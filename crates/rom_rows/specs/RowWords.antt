@@ -1,18 +1,19 @@
 -- The rows as the second pass writes them: each name read as its row comes, the first ROM row counted along.
 -- Assumes nothing.
 use Prim.Native.Nat.{ℕ, _+_, _*_}
-use native.Mathlib.Omega.{arith}
 use native.Mathlib.Nat.{add-zero, zero-add, add-assoc}
 use mathlib.Core.Path.{_≡_, refl, sym, ap, _∙_}
 use mathlib.Core.Bool.{Bool}
 use mathlib.Core.List.{List, [], _∷_, _++_, append-assoc}
-use lib.ListN.{length, length-append}
+use lib.ListN.{length}
 use Rattle.le.specs.Le.{u8At, u32At}
 use Rattle.prog.specs.Prog.{also, run}
 use Rattle.prog.specs.Run.{run-map, run-also}
+use Rattle.rows.specs.LentRows.{romWidth}
+use Rattle.rows.specs.Widths.{one-row-more}
 use Rattle.text.specs.declared.Text.{Text}
 use Rattle.walk.specs.Walk.{Rom, RomSet, romOf}
-use Rattle.walk.specs.Rows.{romWidth, setRow, countsOf, setRowsAfter, setRows, romFront, nameWords, romRow, romRows}
+use Rattle.walk.specs.Rows.{setRow, countsOf, setRowsAfter, setRows, romFront, nameWords, romRow, romRows}
 use Rattle.walk.specs.Names.{nameP, namesP}
 use Rattle.walk.specs.RowLaws.{rom-row-length}
 use Rattle.set_header.specs.SetHeader.{configOf, overridesOf}
@@ -67,8 +68,7 @@ pub named-length : (x : List ℕ) (base : ℕ) (rs : List Rom) → length (named
 unfolding namedRows
 named-length x base [] = refl
 named-length x base (r ∷ rs) =
-    length-append (namedRow x base r) (namedRows x base rs)
-    ∙ (let a = named-row-length x base r in let b = named-length x base rs in omega arith)
+    one-row-more (namedRow x base r) (namedRows x base rs) romWidth (named-row-length x base r) (length rs) (named-length x base rs)
 
 -- ---- set rows, the first ROM row given
 

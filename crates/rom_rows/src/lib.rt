@@ -4,6 +4,7 @@ ghost use Prim.Native.Nat.{_+_, _*_, _≤_};
 ghost use lib.ListN.{length};
 ghost use lib.Seq.{sets};
 ghost use Rattle.prog.specs.Prog.{run};
+ghost use Rattle.rows.specs.LentRows.{setWidth, romWidth};
 ghost use Rattle.walk.specs.Walk.{romOf, romsOf, walkP};
 ghost use Rattle.walk.specs.Names.{nameP, walkNamesP};
 ghost use Rattle.walk.specs.Passes.{romAt, romsAt, setsAt};
@@ -26,7 +27,7 @@ fn put_words(rows: &mut [u32], at: usize, words: &[u32])
 }
 
 // The row of the set whose part of the image is s.
-fn set_row(first: u32, s: &[u8]) -> [u32; 8]
+fn set_row(first: u32, s: &[u8]) -> [u32; rows::SET_WORDS]
     ensures { λ r. ⌜ r ≡ setWords first (now (s .entry)) ⌝ }
 {
     [
@@ -42,7 +43,7 @@ fn set_row(first: u32, s: &[u8]) -> [u32; 8]
 }
 
 // The row of a ROM info and its name.
-fn rom_row(s: &[u8], name: Text) -> [u32; 7]
+fn rom_row(s: &[u8], name: Text) -> [u32; rows::ROM_WORDS]
     ensures { λ r. ⌜ r ≡ romWords (now (s .entry)) name ⌝ }
 {
     [
@@ -73,7 +74,7 @@ fn rom_name(image: &[u8], base: u32, filenames: bool, s: &[u8]) -> Text
 }
 
 // The row of the ROM whose pointer is in an entry of the table.
-fn named_row(image: &[u8], base: u32, filenames: bool, entry: u64) -> [u32; 7]
+fn named_row(image: &[u8], base: u32, filenames: bool, entry: u64) -> [u32; rows::ROM_WORDS]
     ensures { λ r. ⌜ r ≡ namedRow (now (image .entry)) base (romAt (now (image .entry)) base filenames entry) ⌝ }
 {
     let s = window::image_from(image, base, set_header::info_ptr(image, base, entry) as u64);
@@ -90,7 +91,7 @@ fn write_roms(
     table: u32,
     count: u8,
 )
-    requires { ⌜ from + 7 * count ≤ length (now rows) ⌝ }
+    requires { ⌜ from + romWidth * count ≤ length (now rows) ⌝ }
     ensures { λ _. ⌜ now (rows .exit) ≡ sets (now (rows .entry)) from (namedRows (now (image .entry)) base (romsAt (now (image .entry)) base filenames table count)) ⌝ }
 {
     let mut entry = table as u64;
@@ -100,7 +101,7 @@ fn write_roms(
         let row = named_row(image, base, filenames, entry);
         put_words(rows, at, &row);
         entry += 4;
-        at += 7;
+        at += rows::ROM_WORDS;
         left -= 1;
     }
 }
@@ -116,7 +117,7 @@ fn write_rom_sets(
     set_rows: &mut [u32],
     rom_rows: &mut [u32],
 )
-    requires { ⌜ (8 * count ≤ length (now «set_rows»)) × (7 * length (romsOf (setsAt (now image) base filenames long ptr count)) ≤ length (now «rom_rows»)) ⌝ }
+    requires { ⌜ (setWidth * count ≤ length (now «set_rows»)) × (romWidth * length (romsOf (setsAt (now image) base filenames long ptr count)) ≤ length (now «rom_rows»)) ⌝ }
     ensures sets { λ _. ⌜ now («set_rows» .exit) ≡ sets (now («set_rows» .entry)) 0 (rowsFrom 0 (setsAt (now (image .entry)) base filenames long ptr count)) ⌝ }
     ensures roms { λ _. ⌜ now («rom_rows» .exit) ≡ sets (now («rom_rows» .entry)) 0 (namedRows (now (image .entry)) base (romsOf (setsAt (now (image .entry)) base filenames long ptr count))) ⌝ }
 {
@@ -132,7 +133,7 @@ fn write_rom_sets(
         let table = le::u32_at(s, 8);
         write_roms(
             rom_rows,
-            7 * (first as usize),
+            rows::ROM_WORDS * (first as usize),
             image,
             base,
             filenames,
@@ -141,7 +142,7 @@ fn write_rom_sets(
         );
         first += n as u32;
         address += set_header::set_stride(long, s);
-        at += 8;
+        at += rows::SET_WORDS;
         left -= 1;
     }
 }
@@ -173,10 +174,10 @@ pub fn read_rom_sets(
     if judged.number != 0 {
         return judged;
     }
-    if set_rows.len() < 8 * (count as usize) {
+    if set_rows.len() < rows::SET_WORDS * (count as usize) {
         return refuse(44);
     }
-    if rom_rows.len() < 7 * (judged.rom_count as usize) {
+    if rom_rows.len() < rows::ROM_WORDS * (judged.rom_count as usize) {
         return refuse(45);
     }
     let filenames = header::filenames_enabled(fields);

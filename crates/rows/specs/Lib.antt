@@ -1,1 +1,2 @@
 pub mod LentRows
+pub mod Widths

@@ -1,10 +1,69 @@
-// The words of rows as lent: set rows of eight, ROM rows of seven.
+// The words of rows as lent, by name: a caller writes no number for a place or a width.
 use types::SdrrRomType;
 ghost use mathlib.Core.Path.{_≡_};
 ghost use Prim.Native.Nat.{_+_, _*_};
 ghost use lib.ListN.{getD};
 ghost use Rattle.types.specs.Types.{romTypeOf};
-ghost use Rattle.rows.specs.LentRows.{hasSetRow, hasRomRow, setWord, typeWord, badRomRow};
+ghost use Rattle.rows.specs.LentRows.{hasSetRow, hasRomRow, setPlace, romPlace, setWord, romWord, typeWord, badRomRow};
+
+// How many words a set row has.
+pub const SET_WORDS: usize = 8;
+
+// How many words a ROM row has.
+pub const ROM_WORDS: usize = 7;
+
+// The words of a set row, in their order.
+pub enum SetWord {
+    DataPointer,
+    Size,
+    FirstRom,
+    RomCount,
+    Serve,
+    State,
+    Config,
+    Overrides,
+}
+
+// The words of a ROM row, in their order.
+pub enum RomWord {
+    Type,
+    Cs1,
+    Cs2,
+    Cs3,
+    NameOffset,
+    NameLength,
+    NameReason,
+}
+
+// The place in its row.
+fn set_place(word: SetWord) -> u8
+    ensures { λ r. ⌜ r ≡ setPlace word ⌝ }
+{
+    match word {
+        SetWord::DataPointer => 0,
+        SetWord::Size => 1,
+        SetWord::FirstRom => 2,
+        SetWord::RomCount => 3,
+        SetWord::Serve => 4,
+        SetWord::State => 5,
+        SetWord::Config => 6,
+        SetWord::Overrides => 7,
+    }
+}
+
+fn rom_place(word: RomWord) -> u8
+    ensures { λ r. ⌜ r ≡ romPlace word ⌝ }
+{
+    match word {
+        RomWord::Type => 0,
+        RomWord::Cs1 => 1,
+        RomWord::Cs2 => 2,
+        RomWord::Cs3 => 3,
+        RomWord::NameOffset => 4,
+        RomWord::NameLength => 5,
+        RomWord::NameReason => 6,
+    }
+}
 
 // A word past the end counts as 0.
 fn word_at(words: &[u32], at: usize) -> u32
@@ -19,35 +78,44 @@ fn word_at(words: &[u32], at: usize) -> u32
 pub fn has_set_row(set_rows: &[u32], set: u32) -> bool
     ensures { λ r. ⌜ r ≡ hasSetRow (now («set_rows» .entry)) set ⌝ }
 {
-    8 * (set as usize) + 8 <= set_rows.len()
+    SET_WORDS * (set as usize) + SET_WORDS <= set_rows.len()
 }
 
-pub fn set_word(set_rows: &[u32], set: u32, word: u8) -> u32
+pub fn set_word(set_rows: &[u32], set: u32, word: SetWord) -> u32
     ensures { λ r. ⌜ r ≡ setWord (now («set_rows» .entry)) set word ⌝ }
 {
-    word_at(set_rows, 8 * (set as usize) + (word as usize))
+    word_at(
+        set_rows,
+        SET_WORDS * (set as usize) + (set_place(word) as usize),
+    )
 }
 
 fn has_rom_row(rom_rows: &[u32], row: u32) -> bool
     ensures { λ r. ⌜ r ≡ hasRomRow (now («rom_rows» .entry)) row ⌝ }
 {
-    7 * (row as usize) + 7 <= rom_rows.len()
+    ROM_WORDS * (row as usize) + ROM_WORDS <= rom_rows.len()
 }
 
-fn type_word(rom_rows: &[u32], row: u32) -> u32
-    ensures { λ r. ⌜ r ≡ typeWord (now («rom_rows» .entry)) row ⌝ }
+pub fn rom_word(rom_rows: &[u32], row: u32, word: RomWord) -> u32
+    ensures { λ r. ⌜ r ≡ romWord (now («rom_rows» .entry)) row word ⌝ }
 {
-    word_at(rom_rows, 7 * (row as usize))
+    word_at(
+        rom_rows,
+        ROM_WORDS * (row as usize) + (rom_place(word) as usize),
+    )
 }
 
 pub fn is_bad_rom_row(rom_rows: &[u32], row: u32) -> bool
     ensures { λ r. ⌜ r ≡ badRomRow (now («rom_rows» .entry)) row ⌝ }
 {
-    base::either(!has_rom_row(rom_rows, row), 33 < type_word(rom_rows, row))
+    base::either(
+        !has_rom_row(rom_rows, row),
+        33 < rom_word(rom_rows, row, RomWord::Type),
+    )
 }
 
 pub fn rom_type(rom_rows: &[u32], row: u32) -> SdrrRomType
     ensures { λ r. ⌜ r ≡ romTypeOf (typeWord (now («rom_rows» .entry)) row) ⌝ }
 {
-    types::rom_type_of(type_word(rom_rows, row))
+    types::rom_type_of(rom_word(rom_rows, row, RomWord::Type))
 }

@@ -1,6 +1,6 @@
 -- Same set, outcome by outcome: what the proofs of the code cite.
 -- Assumes nothing.
-use Prim.Native.Nat.{ℕ, zero, suc, _+_, _-_, _*_, _≤_, _<_}
+use Prim.Native.Nat.{ℕ, zero, suc, pred, _+_, _-_, _*_, _≤_, _<_}
 use native.Mathlib.Omega.{arith}
 use native.Mathlib.Numerals.{sub-one}
 use mathlib.Core.Path.{_≡_, refl, _∙_}
@@ -11,21 +11,21 @@ use lib.ListN.{length, getD, drop, length-drop}
 use lib.Seq.{drop-cons, drop-drop}
 use borrow.Author.Tests.{ltb-false, lt-ltb, le-ltb, le-leb, lt-leb, eq-eqb, ne-eqb}
 use Rattle.base.specs.Cases.{clash}
-use Rattle.rows.specs.LentRows.{hasSetRow, sizeOf, firstRom, romCount, serveOf}
+use Rattle.rows.specs.LentRows.{romWidth, hasSetRow, sizeOf, firstRom, romCount, serveOf}
 use Rattle.info.specs.Lent.{unvalued}
 use Rattle.info.specs.Same.{typesIn, types, anyAbove33, badSet, compared, equal, sameSet}
 
 -- ---- the types of ROM rows, one by one
 
 module _ (words : List ℕ) (at left : ℕ) where
-  types-cons : at < length words → (left ≡ 0 → ⊥) → typesIn (drop at words) left ≡ getD words at 0 ∷ typesIn (drop (at + 7) words) (left - 1)
+  types-cons : at < length words → (left ≡ 0 → ⊥) → typesIn (drop at words) left ≡ getD words at 0 ∷ typesIn (drop (at + romWidth) words) (left - 1)
   unfolding typesIn
   types-cons h i = rw (drop-cons words at 0 h) (go left i)
     where
-      after : drop 6 (drop (suc at) words) ≡ drop (at + 7) words
-      after = let e : suc at + 6 ≡ at + 7 = omega arith in drop-drop 6 (suc at) words ∙ rw e
+      after : drop (pred romWidth) (drop (suc at) words) ≡ drop (at + romWidth) words
+      after = let e : suc at + pred romWidth ≡ at + romWidth = omega arith in drop-drop (pred romWidth) (suc at) words ∙ rw e
 
-      go : (n : ℕ) → (n ≡ 0 → ⊥) → typesIn (getD words at 0 ∷ drop (suc at) words) n ≡ getD words at 0 ∷ typesIn (drop (at + 7) words) (n - 1)
+      go : (n : ℕ) → (n ≡ 0 → ⊥) → typesIn (getD words at 0 ∷ drop (suc at) words) n ≡ getD words at 0 ∷ typesIn (drop (at + romWidth) words) (n - 1)
       go zero j = absurd (j refl)
       go (suc n) j = rw (after, sub-one (suc n))
 
@@ -33,7 +33,7 @@ module _ (words : List ℕ) (at left : ℕ) where
   unfolding anyAbove33
   above-found h i j = rw (types-cons h i, lt-ltb 33 (getD words at 0) j)
 
-  pub above-next : at < length words → (left ≡ 0 → ⊥) → getD words at 0 ≤ 33 → anyAbove33 (typesIn (drop (at + 7) words) (left - 1)) ≡ anyAbove33 (typesIn (drop at words) left)
+  pub above-next : at < length words → (left ≡ 0 → ⊥) → getD words at 0 ≤ 33 → anyAbove33 (typesIn (drop (at + romWidth) words) (left - 1)) ≡ anyAbove33 (typesIn (drop at words) left)
   unfolding anyAbove33
   above-next h i j = rw (types-cons h i, le-ltb 33 (getD words at 0) j)
 
@@ -47,7 +47,7 @@ module _ (a b : List ℕ) (at left : ℕ) where
   types-differ h i j e = rw (types-cons a at left h j, types-cons b at left i j, ne-eqb (getD a at 0) (getD b at 0) e)
 
   pub types-next : at < length a → at < length b → (left ≡ 0 → ⊥) → getD a at 0 ≡ getD b at 0
-      → equal (typesIn (drop (at + 7) a) (left - 1)) (typesIn (drop (at + 7) b) (left - 1)) ≡ equal (typesIn (drop at a) left) (typesIn (drop at b) left)
+      → equal (typesIn (drop (at + romWidth) a) (left - 1)) (typesIn (drop (at + romWidth) b) (left - 1)) ≡ equal (typesIn (drop at a) left) (typesIn (drop at b) left)
   unfolding equal
   types-next h i j e = rw (types-cons a at left h j, types-cons b at left i j, eq-eqb (getD a at 0) (getD b at 0) e)
 
@@ -67,32 +67,32 @@ module _ (sets roms : List ℕ) (i : ℕ) where
     unfolding badSet
     bad-empty h = rw (row, h)
 
-    pub bad-short : (romCount sets i ≡ 0 → ⊥) → length roms < 7 * (firstRom sets i + romCount sets i) → true ≡ badSet sets roms i
+    pub bad-short : (romCount sets i ≡ 0 → ⊥) → length roms < romWidth * (firstRom sets i + romCount sets i) → true ≡ badSet sets roms i
     unfolding badSet
-    bad-short h s = let p : 0 < romCount sets i = omega arith in rw (row, lt-ltb 0 (romCount sets i) p, lt-ltb (length roms) (7 * (firstRom sets i + romCount sets i)) s)
+    bad-short h s = let p : 0 < romCount sets i = omega arith in rw (row, lt-ltb 0 (romCount sets i) p, lt-ltb (length roms) (romWidth * (firstRom sets i + romCount sets i)) s)
 
-    pub bad-types : (romCount sets i ≡ 0 → ⊥) → 7 * (firstRom sets i + romCount sets i) ≤ length roms
-        → anyAbove33 (typesIn (drop (7 * firstRom sets i) roms) (romCount sets i)) ≡ badSet sets roms i
+    pub bad-types : (romCount sets i ≡ 0 → ⊥) → romWidth * (firstRom sets i + romCount sets i) ≤ length roms
+        → anyAbove33 (typesIn (drop (romWidth * firstRom sets i) roms) (romCount sets i)) ≡ badSet sets roms i
     unfolding badSet
-    bad-types h s = let p : 0 < romCount sets i = omega arith in rw (row, lt-ltb 0 (romCount sets i) p, le-ltb (length roms) (7 * (firstRom sets i + romCount sets i)) s)
+    bad-types h s = let p : 0 < romCount sets i = omega arith in rw (row, lt-ltb 0 (romCount sets i) p, le-ltb (length roms) (romWidth * (firstRom sets i + romCount sets i)) s)
 
   -- a set that can be compared has its ROM rows among those lent
-  good-rows : badSet sets roms i ≡ false → (romCount sets i ≡ 0 → ⊥) → 7 * (firstRom sets i + romCount sets i) ≤ length roms
+  good-rows : badSet sets roms i ≡ false → (romCount sets i ≡ 0 → ⊥) → romWidth * (firstRom sets i + romCount sets i) ≤ length roms
   unfolding badSet
   good-rows h c =
       let p : 0 < romCount sets i = omega arith in
-      go (hasSetRow sets i) (ltb (length roms) (7 * (firstRom sets i + romCount sets i))) refl (rw (lt-ltb 0 (romCount sets i) p) at h)
+      go (hasSetRow sets i) (ltb (length roms) (romWidth * (firstRom sets i + romCount sets i))) refl (rw (lt-ltb 0 (romCount sets i) p) at h)
     where
-      go : (b s : Bool) → ltb (length roms) (7 * (firstRom sets i + romCount sets i)) ≡ s → (not b || (s || anyAbove33 (types sets roms i))) ≡ false
-          → 7 * (firstRom sets i + romCount sets i) ≤ length roms
-      go true false e f = ltb-false (length roms) (7 * (firstRom sets i + romCount sets i)) e
+      go : (b s : Bool) → ltb (length roms) (romWidth * (firstRom sets i + romCount sets i)) ≡ s → (not b || (s || anyAbove33 (types sets roms i))) ≡ false
+          → romWidth * (firstRom sets i + romCount sets i) ≤ length roms
+      go true false e f = ltb-false (length roms) (romWidth * (firstRom sets i + romCount sets i)) e
       go true true e f = clash (cc)
       go false s e f = clash (cc)
 
-  pub enough-rows : badSet sets roms i ≡ false → (n first : ℕ) → n ≡ romCount sets i → first ≡ firstRom sets i → (words : List ℕ) → words ≡ drop (7 * first) roms → 7 * n ≤ length words
-  enough-rows h n first v w words e = rw (e, length-drop (7 * first) roms) (go n refl)
+  pub enough-rows : badSet sets roms i ≡ false → (n first : ℕ) → n ≡ romCount sets i → first ≡ firstRom sets i → (words : List ℕ) → words ≡ drop (romWidth * first) roms → romWidth * n ≤ length words
+  enough-rows h n first v w words e = rw (e, length-drop (romWidth * first) roms) (go n refl)
     where
-      go : (k : ℕ) → n ≡ k → 7 * n ≤ length roms - 7 * first
+      go : (k : ℕ) → n ≡ k → romWidth * n ≤ length roms - romWidth * first
       go zero z = omega arith
       go (suc k) z = omega (arith, good-rows h (λ y. absurd (omega arith)))
 
@@ -116,7 +116,7 @@ module _ (sets roms : List ℕ) (a b : ℕ) where
 
       module _ (serves : serveOf sets a ≡ serveOf sets b) where
         -- ROM count, first ROM rows and the words from there on, as the code has them
-        pub by-types : (n first other : ℕ) → n ≡ romCount sets a → first ≡ firstRom sets a → other ≡ firstRom sets b → (v w : List ℕ) → v ≡ drop (7 * first) roms → w ≡ drop (7 * other) roms
+        pub by-types : (n first other : ℕ) → n ≡ romCount sets a → first ≡ firstRom sets a → other ≡ firstRom sets b → (v w : List ℕ) → v ≡ drop (romWidth * first) roms → w ≡ drop (romWidth * other) roms
             → equal (typesIn v n) (typesIn w n) ≡ equal (compared sets roms a) (compared sets roms b)
         unfolding compared equal
         by-types n first other e f g v w h i =

@@ -1,17 +1,19 @@
 // Same set (document 01; the Rust has no such call): by the rows as lent.
 use info::Valued;
+use rows::SetWord;
 ghost use mathlib.Core.Path.{_≡_};
 ghost use mathlib.Core.Bool.{false};
 ghost use Prim.Native.Nat.{_*_, _≤_};
 ghost use lib.ListN.{length, drop};
+ghost use Rattle.rows.specs.LentRows.{romWidth};
 ghost use Rattle.info.specs.Lent.{unvalued};
 ghost use Rattle.info.specs.Same.{typesIn, anyAbove33, badSet, compared, equal, sameSet};
 
 // The words from a ROM row on; none where it lies past their end.
 fn from_row(rom_rows: &[u32], row: u32) -> &[u32]
-    ensures { λ r. ⌜ now r ≡ drop (7 * row) (now («rom_rows» .entry)) ⌝ }
+    ensures { λ r. ⌜ now r ≡ drop (romWidth * row) (now («rom_rows» .entry)) ⌝ }
 {
-    let at = 7 * (row as usize);
+    let at = rows::ROM_WORDS * (row as usize);
     if rom_rows.len() < at {
         return &rom_rows[..0];
     }
@@ -20,7 +22,7 @@ fn from_row(rom_rows: &[u32], row: u32) -> &[u32]
 
 // Whether one of the first ROM rows, so many of them, has a type above 33.
 fn any_above_33(words: &[u32], count: u32) -> bool
-    requires { ⌜ 7 * count ≤ length (now words) ⌝ }
+    requires { ⌜ romWidth * count ≤ length (now words) ⌝ }
     ensures { λ r. ⌜ r ≡ anyAbove33 (typesIn (now (words .entry)) count) ⌝ }
 {
     let mut at: usize = 0;
@@ -29,7 +31,7 @@ fn any_above_33(words: &[u32], count: u32) -> bool
         if 33 < words[at] {
             return true;
         }
-        at += 7;
+        at += rows::ROM_WORDS;
         left -= 1;
     }
     false
@@ -37,7 +39,7 @@ fn any_above_33(words: &[u32], count: u32) -> bool
 
 // Whether the types of the first ROM rows, so many of them, agree.
 fn same_types(a: &[u32], b: &[u32], count: u32) -> bool
-    requires { ⌜ (7 * count ≤ length (now a)) × (7 * count ≤ length (now b)) ⌝ }
+    requires { ⌜ (romWidth * count ≤ length (now a)) × (romWidth * count ≤ length (now b)) ⌝ }
     ensures { λ r. ⌜ r ≡ equal (typesIn (now (a .entry)) count) (typesIn (now (b .entry)) count) ⌝ }
 {
     let mut i: usize = 0;
@@ -46,7 +48,7 @@ fn same_types(a: &[u32], b: &[u32], count: u32) -> bool
         if a[i] != b[i] {
             return false;
         }
-        i += 7;
+        i += rows::ROM_WORDS;
         left -= 1;
     }
     true
@@ -59,12 +61,12 @@ fn is_bad_set(set_rows: &[u32], rom_rows: &[u32], set: u32) -> bool
     if !rows::has_set_row(set_rows, set) {
         return true;
     }
-    let count = rows::set_word(set_rows, set, 3);
+    let count = rows::set_word(set_rows, set, SetWord::RomCount);
     if count == 0 {
         return false;
     }
-    let first = rows::set_word(set_rows, set, 2);
-    if rom_rows.len() < 7 * (first as usize + count as usize) {
+    let first = rows::set_word(set_rows, set, SetWord::FirstRom);
+    if rom_rows.len() < rows::ROM_WORDS * (first as usize + count as usize) {
         return true;
     }
     any_above_33(from_row(rom_rows, first), count)
@@ -75,18 +77,18 @@ fn is_same(set_rows: &[u32], rom_rows: &[u32], a: u32, b: u32) -> bool
     requires { ⌜ (badSet (now «set_rows») (now «rom_rows») a ≡ false) × (badSet (now «set_rows») (now «rom_rows») b ≡ false) ⌝ }
     ensures { λ r. ⌜ r ≡ equal (compared (now («set_rows» .entry)) (now («rom_rows» .entry)) a) (compared (now («set_rows» .entry)) (now («rom_rows» .entry)) b) ⌝ }
 {
-    if rows::set_word(set_rows, a, 1) != rows::set_word(set_rows, b, 1) {
+    if rows::set_word(set_rows, a, SetWord::Size) != rows::set_word(set_rows, b, SetWord::Size) {
         return false;
     }
-    let count = rows::set_word(set_rows, a, 3);
-    if count != rows::set_word(set_rows, b, 3) {
+    let count = rows::set_word(set_rows, a, SetWord::RomCount);
+    if count != rows::set_word(set_rows, b, SetWord::RomCount) {
         return false;
     }
-    if rows::set_word(set_rows, a, 4) != rows::set_word(set_rows, b, 4) {
+    if rows::set_word(set_rows, a, SetWord::Serve) != rows::set_word(set_rows, b, SetWord::Serve) {
         return false;
     }
-    let of_a = from_row(rom_rows, rows::set_word(set_rows, a, 2));
-    let of_b = from_row(rom_rows, rows::set_word(set_rows, b, 2));
+    let of_a = from_row(rom_rows, rows::set_word(set_rows, a, SetWord::FirstRom));
+    let of_b = from_row(rom_rows, rows::set_word(set_rows, b, SetWord::FirstRom));
     same_types(of_a, of_b, count)
 }
 

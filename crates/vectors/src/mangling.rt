@@ -90,9 +90,9 @@ fn set_words(line: &[u8]) -> [u32; 64] {
 
 fn rom_words(line: &[u8]) -> [u32; 512] {
     let mut words = [0u32; 512];
-    let first = lines::number(line, 4);
-    if first < 73 {
-        words[7 * (first as usize)] = lines::number(line, 6);
+    let at = rows::ROM_WORDS * (lines::number(line, 4) as usize);
+    if at + rows::ROM_WORDS <= 512 {
+        words[at] = lines::number(line, 6);
     }
     words
 }

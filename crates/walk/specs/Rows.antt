@@ -1,4 +1,4 @@
--- Document 01, "ROM sets and ROM infos": set rows of eight words and ROM rows of seven.
+-- Document 01, "ROM sets and ROM infos": the rows that an opening writes.
 use Prim.Native.Nat.{ℕ, _+_, _*_}
 use mathlib.Core.Bool.{Bool}
 use mathlib.Core.List.{List, [], _∷_, _++_, map}
@@ -7,9 +7,9 @@ use lib.ListN.{length, getD, drop}
 use Rattle.text.specs.declared.Text.{Text}
 use Rattle.text.specs.Text.{refused}
 use Rattle.walk.specs.Walk.{Rom, RomSet, romsOf}
-pub use Rattle.rows.specs.LentRows.{setWidth, romWidth}
+use Rattle.rows.specs.LentRows.{setWidth, romWidth}
 
--- the eight words, in their order; an address of 0 says that there is none
+-- the words in their order; an address of 0 says that there is none
 unfoldable pub setRow : ℕ → RomSet → List ℕ
 setRow first s =
     s .dataPointer ∷ s .size ∷ first ∷ s .romCount ∷ s .serve ∷ s .state ∷ s .config ∷ s .overrides ∷ []

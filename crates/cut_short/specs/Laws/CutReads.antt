@@ -7,14 +7,15 @@ use mathlib.Core.Logic.{_⊎_, inl, inr, ⊎-elim}
 use mathlib.Core.Bool.{Bool, true, false, _||_}
 use mathlib.Core.List.{List, [], _∷_, _++_, map}
 use lib.Dec.{ltb, eqb}
-use lib.ListN.{length, take, getD, drop, length-append, length-drop, length-map}
+use lib.ListN.{length, take, drop, length-append, length-drop, length-map}
 use Rattle.base.specs.Choice.{pick}
 use Rattle.window.specs.Window.{baseAfter}
 use Rattle.prog.specs.Prog.{run}
 use Rattle.prog.specs.Honest.{honest-kept}
 use Rattle.text.specs.declared.Text.{Text}
 use Rattle.walk.specs.Walk.{Rom, RomSet, romsOf}
-use Rattle.walk.specs.Rows.{romWidth, setRows, romFront, romRows, overwritten}
+use Rattle.rows.specs.LentRows.{romWidth, typeWord}
+use Rattle.walk.specs.Rows.{setRows, romFront, romRows, overwritten}
 use Rattle.walk.specs.RowLaws.{rom-rows-length, type-words}
 use Rattle.info.specs.Lent.{Lent}
 use Rattle.info.specs.Reads.{Bytes, RomRead, lengthOf, readP, Reply, replyOf, romRead}
@@ -39,10 +40,10 @@ module _ (rs ss : List Rom) (ts us : List Text) (e : map romFront rs ≡ map rom
       ∙ (rw same-words refl)
       ∙ sym (length-append (romRows ss us) (drop (length (romRows ss us)) lent))
 
-  pub rows-types : (i : ℕ) → getD (overwritten (romRows rs ts) lent) (romWidth * i) 0 ≡ getD (overwritten (romRows ss us) lent) (romWidth * i) 0
+  pub rows-types : (i : ℕ) → typeWord (overwritten (romRows rs ts) lent) i ≡ typeWord (overwritten (romRows ss us) lent) i
   rows-types i =
       type-words rs ss ts us (drop (length (romRows rs ts)) lent) e i
-      ∙ ap (λ (n : ℕ). getD (romRows ss us ++ drop n lent) (romWidth * i) 0) same-words
+      ∙ ap (λ (n : ℕ). typeWord (romRows ss us ++ drop n lent) i) same-words
 
 -- ---- boards that show the same but for names and ended items
 

@@ -4,6 +4,7 @@ use mathlib.Core.Path.{_≡_, _∙_, refl}
 use lib.Seq.{sets}
 use lib.ListN.{length}
 use borrow.Author.Needs.{needs}
+use Rattle.rows.specs.LentRows.{setWidth, romWidth}
 use Rattle.rom_rows.specs.RowWords.{rowsFrom, namedRows}
 use Rattle.set_header.specs.SetHeader.{strideOf}
 use Rattle.walk.specs.Passes.{setsAt}
@@ -19,12 +20,12 @@ abbrev Inv-loop : tie.InvT-loop
 Inv-loop image base filenames long count ptr set-rows₀ rom-rows₀ address₀ left₀ at₀ first₀ set-rows rom-rows address left at first =
     (address + 64 * left ≤ ptr + 64 * count)
     × (first + 255 * left ≤ 255 * count)
-    × (at + 8 * left ≡ 8 * count)
-    × (7 * first + 7 * romsIn image base filenames long address left ≤ length rom-rows)
+    × (at + setWidth * left ≡ setWidth * count)
+    × (romWidth * first + romWidth * romsIn image base filenames long address left ≤ length rom-rows)
     × (length set-rows ≡ length set-rows₀)
     × (length rom-rows ≡ length rom-rows₀)
     × (sets set-rows at (rowsFrom first (setsAt image base filenames long address left)) ≡ sets set-rows₀ 0 (rowsFrom 0 (setsAt image base filenames long ptr count)))
-    × (sets rom-rows (7 * first) (namedRows image base (romsOf (setsAt image base filenames long address left))) ≡ sets rom-rows₀ 0 (namedRows image base (romsOf (setsAt image base filenames long ptr count))))
+    × (sets rom-rows (romWidth * first) (namedRows image base (romsOf (setsAt image base filenames long address left))) ≡ sets rom-rows₀ 0 (namedRows image base (romsOf (setsAt image base filenames long ptr count))))
 
 abbrev μ-loop : tie.MeasureT-loop
 μ-loop image base filenames long count ptr set-rows₀ rom-rows₀ address₀ left₀ at₀ first₀ set-rows rom-rows address left at first = left

@@ -4,6 +4,7 @@ use mathlib.Core.Path.{_≡_, _∙_, refl}
 use lib.Seq.{sets}
 use lib.ListN.{length}
 use borrow.Author.Needs.{needs}
+use Rattle.rows.specs.LentRows.{romWidth}
 use Rattle.rom_rows.specs.RowWords.{namedRows}
 use Rattle.walk.specs.Passes.{romsAt}
 use Rattle.rom_rows.proofs.RowSteps.{roms-written, roms-write}
@@ -13,7 +14,7 @@ use Rattle.rom_rows.proofs.write_roms.Tie as tie
 abbrev Inv-loop : tie.InvT-loop
 Inv-loop rows₀ from image base filenames table count entry₀ left₀ at₀ rows entry left at =
     (entry + 4 * left ≤ table + 4 * count)
-    × (at + 7 * left ≤ length rows)
+    × (at + romWidth * left ≤ length rows)
     × (length rows ≡ length rows₀)
     × (sets rows at (namedRows image base (romsAt image base filenames entry left)) ≡ sets rows₀ from (namedRows image base (romsAt image base filenames table count)))
 

@@ -5,8 +5,8 @@ use Rattle.rows.proofs.is_bad_rom_row.Tie as tie
 has-rom-row-requires : tie.Need-has-rom-row-requires
 has-rom-row-requires c κs = search needs
 
-type-word-requires : tie.Need-type-word-requires
-type-word-requires c κs = search needs
+rom-word-requires : tie.Need-rom-word-requires
+rom-word-requires c κs = search needs
 
 either-requires : tie.Need-either-requires
 either-requires c κs = search needs
@@ -16,4 +16,4 @@ returns c = cc
 
 pub is-bad-rom-row-spec : {M : Type 1} → statement M
 is-bad-rom-row-spec =
-    tie.close (tie.spec has-rom-row-requires type-word-requires either-requires returns)
+    tie.close (tie.spec has-rom-row-requires rom-word-requires either-requires returns)

@@ -2,13 +2,14 @@ use Prim.Native.Nat.{_+_, _*_, _≤_}
 use native.Mathlib.Omega.{arith}
 use mathlib.Core.Path.{_≡_, refl, _∙_}
 use lib.ListN.{length, drop}
+use Rattle.rows.specs.LentRows.{romWidth}
 use Rattle.info.specs.Same.{typesIn, anyAbove33}
 use Rattle.same_set.specs.Steps.{above-found, above-next, above-none}
 use Rattle.same_set.proofs.any_above_33.Statement.{statement}
 use Rattle.same_set.proofs.any_above_33.Tie as tie
 
 abbrev Inv-loop : tie.InvT-loop
-Inv-loop words count at₀ left₀ at left = (at + 7 * left ≤ length words) × (anyAbove33 (typesIn (drop at words) left) ≡ anyAbove33 (typesIn words count))
+Inv-loop words count at₀ left₀ at left = (at + romWidth * left ≤ length words) × (anyAbove33 (typesIn (drop at words) left) ≡ anyAbove33 (typesIn words count))
 
 abbrev μ-loop : tie.MeasureT-loop
 μ-loop words count at₀ left₀ at left = left

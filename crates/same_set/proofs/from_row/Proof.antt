@@ -3,6 +3,7 @@ use native.Mathlib.Omega.{arith}
 use mathlib.Core.Path.{sym}
 use lib.ListN.{length, drop-of-length-le}
 use borrow.Author.Needs.{needs}
+use Rattle.rows.specs.LentRows.{romWidth}
 use Rattle.window.specs.Laws.{onward}
 use Rattle.same_set.proofs.from_row.Statement.{statement}
 use Rattle.same_set.proofs.from_row.Tie as tie
@@ -16,7 +17,7 @@ slice-aggregate-result c = search needs
 returns : tie.Need-returns
 returns c =
     let entry = c .before .before .args in
-    let past : length (entry .rom-rows .now) ≤ 7 * entry .row = omega arith in
+    let past : length (entry .rom-rows .now) ≤ romWidth * entry .row = omega arith in
     sym (drop-of-length-le (entry .rom-rows .now) past)
 
 mul-result : tie.Need-mul-result
@@ -32,7 +33,7 @@ part-result-end : tie.Need-part-result-end
 part-result-end c = search needs
 
 returns-2 : tie.Need-returns-2
-returns-2 c = onward (7 * c .before .before .args .row) (c .before .before .args .rom-rows .now)
+returns-2 c = onward (romWidth * c .before .before .args .row) (c .before .before .args .rom-rows .now)
 
 pub from-row-spec : {M : Type 1} → statement M
 from-row-spec =

@@ -4,7 +4,7 @@ use mathlib.Core.Path.{_≡_, sym, _∙_}
 use lib.ListN.{length, length-drop}
 use borrow.Author.Tests.{not-true, not-false}
 use borrow.Author.Needs.{needs}
-use Rattle.rows.specs.LentRows.{firstRom, romCount}
+use Rattle.rows.specs.LentRows.{romWidth, firstRom, romCount}
 use Rattle.same_set.specs.Steps.{bad-row, bad-empty, bad-short, bad-types}
 use Rattle.same_set.proofs.is_bad_set.Statement.{statement}
 use Rattle.same_set.proofs.is_bad_set.Tie as tie
@@ -52,7 +52,7 @@ returns-3 c =
     let count = romCount (entry .set-rows .now) (entry .set) in
     let first = firstRom (entry .set-rows .now) (entry .set) in
     let none : count ≡ 0 → ⊥ = λ z. some .if2 .left (some .before .set-word .ensures ∙ z) in
-    let short : length (entry .rom-rows .now) < 7 * (first + count) = omega (arith, some .before .set-word .ensures, c .before .set-word2 .ensures) in
+    let short : length (entry .rom-rows .now) < romWidth * (first + count) = omega (arith, some .before .set-word .ensures, c .before .set-word2 .ensures) in
     bad-short (entry .set-rows .now) (entry .rom-rows .now) (entry .set) (sym (row .has-set-row .ensures) ∙ not-false _ (has .if1 .left)) none short
 
 from-row-requires : tie.Need-from-row-requires
@@ -63,7 +63,7 @@ any-above-33-requires c κs =
     let some = c .before .before .before in
     let has = some .before .before in
     let entry = has .before .before .before .before .args in
-    rw (c .from-row .ensures, length-drop (7 * c .before .before .set-word2 .result) (entry .rom-rows .now)) (omega arith)
+    rw (c .from-row .ensures, length-drop (romWidth * c .before .before .set-word2 .result) (entry .rom-rows .now)) (omega arith)
 
 returns-4 : tie.Need-returns-4
 returns-4 c =
@@ -73,7 +73,7 @@ returns-4 c =
     let row = has .before in
     let entry = row .before .before .before .args in
     let none : romCount (entry .set-rows .now) (entry .set) ≡ 0 → ⊥ = λ z. some .if2 .left (some .before .set-word .ensures ∙ z) in
-    let there : 7 * (firstRom (entry .set-rows .now) (entry .set) + romCount (entry .set-rows .now) (entry .set)) ≤ length (entry .rom-rows .now) =
+    let there : romWidth * (firstRom (entry .set-rows .now) (entry .set) + romCount (entry .set-rows .now) (entry .set)) ≤ length (entry .rom-rows .now) =
     omega (arith, some .before .set-word .ensures, first .set-word2 .ensures) in
     rw (← bad-types (entry .set-rows .now) (entry .rom-rows .now) (entry .set) (sym (row .has-set-row .ensures) ∙ not-false _ (has .if1 .left)) none there, ← some .before .set-word .ensures, ← first .set-word2 .ensures, ← c .before .from-row .ensures) (c .any-above-33 .ensures)
 

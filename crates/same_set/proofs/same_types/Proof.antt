@@ -2,6 +2,7 @@ use Prim.Native.Nat.{_+_, _*_, _≤_}
 use native.Mathlib.Omega.{arith}
 use mathlib.Core.Path.{_≡_, refl, _∙_}
 use lib.ListN.{length, drop}
+use Rattle.rows.specs.LentRows.{romWidth}
 use Rattle.info.specs.Same.{typesIn, equal}
 use Rattle.same_set.specs.Steps.{types-differ, types-next, types-same}
 use Rattle.same_set.proofs.same_types.Statement.{statement}
@@ -9,8 +10,8 @@ use Rattle.same_set.proofs.same_types.Tie as tie
 
 abbrev Inv-loop : tie.InvT-loop
 Inv-loop a b count i₀ left₀ i left =
-    (i + 7 * left ≤ length a)
-    × (i + 7 * left ≤ length b)
+    (i + romWidth * left ≤ length a)
+    × (i + romWidth * left ≤ length b)
     × (equal (typesIn (drop i a) left) (typesIn (drop i b) left) ≡ equal (typesIn a count) (typesIn b count))
 
 abbrev μ-loop : tie.MeasureT-loop

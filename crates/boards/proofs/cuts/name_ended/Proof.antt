@@ -16,17 +16,17 @@ loop-holds c = search needs
 sub-loop : tie.Need-sub-loop Inv-loop μ-loop
 sub-loop c = search needs
 
-add-at : tie.Need-add-at Inv-loop μ-loop
-add-at c = search needs
+row-at-requires : tie.Need-row-at-requires Inv-loop μ-loop
+row-at-requires c κs = search needs
 
-at-requires : tie.Need-at-requires Inv-loop μ-loop
-at-requires c κs = search needs
+name-ends-requires : tie.Need-name-ends-requires Inv-loop μ-loop
+name-ends-requires c κs = search needs
 
 returns : tie.Need-returns Inv-loop μ-loop
 returns c = search needs
 
-add-at-2 : tie.Need-add-at-2 Inv-loop μ-loop
-add-at-2 c = search needs
+add-at : tie.Need-add-at Inv-loop μ-loop
+add-at c = search needs
 
 loop-less : tie.Need-loop-less Inv-loop μ-loop
 loop-less c = search needs
@@ -45,10 +45,10 @@ name-ended-spec =
     μ-loop
     loop-holds
     sub-loop
-    add-at
-    at-requires
+    row-at-requires
+    name-ends-requires
     returns
-    add-at-2
+    add-at
     loop-less
     loop-again
     returns-2)

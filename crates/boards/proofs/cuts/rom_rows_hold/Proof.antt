@@ -16,11 +16,11 @@ loop-holds c = search needs
 sub-loop : tie.Need-sub-loop Inv-loop μ-loop
 sub-loop c = search needs
 
-part-requires : tie.Need-part-requires Inv-loop μ-loop
-part-requires c κs = search needs
+row-at-requires : tie.Need-row-at-requires Inv-loop μ-loop
+row-at-requires c κs = search needs
 
-part-requires-2 : tie.Need-part-requires-2 Inv-loop μ-loop
-part-requires-2 c κs = search needs
+row-at-requires-2 : tie.Need-row-at-requires-2 Inv-loop μ-loop
+row-at-requires-2 c κs = search needs
 
 rom-row-holds-requires : tie.Need-rom-row-holds-requires Inv-loop μ-loop
 rom-row-holds-requires c κs = search needs
@@ -57,8 +57,8 @@ rom-rows-hold-spec =
     μ-loop
     loop-holds
     sub-loop
-    part-requires
-    part-requires-2
+    row-at-requires
+    row-at-requires-2
     rom-row-holds-requires
     returns
     add-at

@@ -3,44 +3,7 @@ use extra_info::FirePioDefault;
 use extra_info::SdrrExtraInfo;
 use header::SdrrInfoFields;
 use pins::SdrrPins;
-use types::McuLine;
-use types::McuStorage;
 use types::SdrrMcuPort;
-
-fn line(l: McuLine) -> u32 {
-    match l {
-        McuLine::F401DE => 0,
-        McuLine::F405 => 1,
-        McuLine::F411 => 2,
-        McuLine::F446 => 3,
-        McuLine::F401BC => 4,
-        McuLine::Rp2350 => 5,
-    }
-}
-
-fn storage(s: McuStorage) -> u32 {
-    match s {
-        McuStorage::Storage8 => 0,
-        McuStorage::StorageB => 1,
-        McuStorage::StorageC => 2,
-        McuStorage::StorageD => 3,
-        McuStorage::StorageE => 4,
-        McuStorage::StorageF => 5,
-        McuStorage::StorageG => 6,
-        McuStorage::Storage2MB => 7,
-    }
-}
-
-fn port(p: SdrrMcuPort) -> u32 {
-    match p {
-        SdrrMcuPort::None => 0,
-        SdrrMcuPort::PortA => 1,
-        SdrrMcuPort::PortB => 2,
-        SdrrMcuPort::PortC => 3,
-        SdrrMcuPort::PortD => 4,
-        SdrrMcuPort::Port0 => 5,
-    }
-}
 
 fn pio(p: FirePioDefault) -> u32 {
     match p {
@@ -53,18 +16,22 @@ fn wide(b: u8) -> u32 {
     b as u32
 }
 
+fn port(p: SdrrMcuPort) -> u32 {
+    wide(types::port_number(p))
+}
+
 // The version's four numbers, the line, the storage twice, the frequency.
 pub(crate) fn firmware(f: SdrrInfoFields) -> [u32; 8] {
     let v = f.version;
     let l = f.stm_line;
     let s = f.stm_storage;
-    let k = storage(s);
+    let k = wide(types::storage_number(s));
     [
         v.major as u32,
         v.minor as u32,
         v.patch as u32,
         v.build as u32,
-        line(l),
+        wide(types::line_number(l)),
         k,
         k,
         f.freq as u32,

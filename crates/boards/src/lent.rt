@@ -4,18 +4,6 @@ use super::record;
 use super::words;
 use board::Board;
 use pins::PinsItem;
-use types::McuLine;
-
-fn line(n: u32) -> McuLine {
-    match n {
-        1 => McuLine::F405,
-        2 => McuLine::F411,
-        3 => McuLine::F446,
-        4 => McuLine::F401BC,
-        5 => McuLine::Rp2350,
-        _ => McuLine::F401DE,
-    }
-}
 
 // The pins item: the pins of a record of 88 bytes, with a number of its own.
 fn pins(bytes: &[u8], number: u8) -> PinsItem {
@@ -25,11 +13,12 @@ fn pins(bytes: &[u8], number: u8) -> PinsItem {
 }
 
 fn board(given: &[u8]) -> Board {
+    let line = (record::word(given, 3) % 65536) as u16;
     let number = (record::word(given, 9) % 256) as u8;
     Board {
         flash_base: record::word(given, 1),
         cs0_base: record::word(given, 2),
-        line: line(record::word(given, 3)),
+        line: types::line_of(line),
         pins: pins(record::rest(given), number),
         served: record::word(given, 8),
     }

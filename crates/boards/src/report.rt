@@ -10,8 +10,6 @@ use metadata::MetadataItem;
 use pins::PinsItem;
 use pins::SdrrPins;
 use text::Text;
-use types::McuLine;
-use types::McuStorage;
 use types::SdrrMcuPort;
 use version::FirmwareVersion;
 
@@ -58,39 +56,8 @@ fn sixteen(words: &mut [u32], at: usize, a: [u8; 16]) -> usize {
     bytes(words, at, &a)
 }
 
-fn port(p: SdrrMcuPort) -> u32 {
-    match p {
-        SdrrMcuPort::None => 0,
-        SdrrMcuPort::PortA => 1,
-        SdrrMcuPort::PortB => 2,
-        SdrrMcuPort::PortC => 3,
-        SdrrMcuPort::PortD => 4,
-        SdrrMcuPort::Port0 => 5,
-    }
-}
-
-fn line(l: McuLine) -> u32 {
-    match l {
-        McuLine::F401DE => 0,
-        McuLine::F405 => 1,
-        McuLine::F411 => 2,
-        McuLine::F446 => 3,
-        McuLine::F401BC => 4,
-        McuLine::Rp2350 => 5,
-    }
-}
-
-fn storage(s: McuStorage) -> u32 {
-    match s {
-        McuStorage::Storage8 => 0,
-        McuStorage::StorageB => 1,
-        McuStorage::StorageC => 2,
-        McuStorage::StorageD => 3,
-        McuStorage::StorageE => 4,
-        McuStorage::StorageF => 5,
-        McuStorage::StorageG => 6,
-        McuStorage::Storage2MB => 7,
-    }
+fn port(words: &mut [u32], at: usize, p: SdrrMcuPort) -> usize {
+    byte(words, at, types::port_number(p))
 }
 
 fn pio_default(p: FirePioDefault) -> u32 {
@@ -130,9 +97,9 @@ fn fields(words: &mut [u32], from: usize, f: SdrrInfoFields) -> usize {
     let commit = f.commit;
     let b = eight(words, a, commit);
     let l = f.stm_line;
-    let c = push(words, b, line(l));
+    let c = byte(words, b, types::line_number(l));
     let s = f.stm_storage;
-    let d = push(words, c, storage(s));
+    let d = byte(words, c, types::storage_number(s));
     let e = half(words, d, f.freq);
     let g = flags(words, e, f);
     let boot = f.boot_config;
@@ -151,7 +118,7 @@ fn extra_info(words: &mut [u32], from: usize, i: ExtraInfoItem) -> usize {
     let b = push(words, a, x.rtt_ptr);
     let c = flag(words, b, x.usb_dfu);
     let usb = x.usb_port;
-    let d = push(words, c, port(usb));
+    let d = port(words, c, usb);
     let e = byte(words, d, x.vbus_pin);
     let pio = x.fire_pio_default;
     let g = push(words, e, pio_default(pio));
@@ -166,15 +133,15 @@ fn sets(words: &mut [u32], from: usize, s: SetsItem) -> usize {
 
 fn ports(words: &mut [u32], from: usize, p: SdrrPins) -> usize {
     let data = p.data_port;
-    let a = push(words, from, port(data));
+    let a = port(words, from, data);
     let addr = p.addr_port;
-    let b = push(words, a, port(addr));
+    let b = port(words, a, addr);
     let cs = p.cs_port;
-    let c = push(words, b, port(cs));
+    let c = port(words, b, cs);
     let sel = p.sel_port;
-    let d = push(words, c, port(sel));
+    let d = port(words, c, sel);
     let status = p.status_port;
-    let e = push(words, d, port(status));
+    let e = port(words, d, status);
     byte(words, e, p.rom_pins)
 }
 

@@ -4,30 +4,21 @@ use Prim.Native.Nat.{ℕ}
 use mathlib.Core.Path.{_≡_, refl}
 use Rattle.window.specs.Window.{baseAfter}
 use Rattle.types.specs.declared.McuLine.{McuLine}
-use Rattle.types.specs.declared.SdrrMcuPort.{SdrrMcuPort}
-use Rattle.types.specs.Types.{lineNumber, isRp2350, portNumber, portOf}
+use Rattle.types.specs.Types.{lineNumber, isRp2350}
+use Rattle.types.specs.Laws.{port-again}
 use Rattle.pins.specs.declared.PinsItem.{PinsItem}
 use Rattle.fw_parser.specs.declared.SdrrInfo.{SdrrInfo}
 use Rattle.c_report.specs.Report.{lineIn, headerOut, setsOut, pinsOut, pinsIn, reportOut, boardIn}
-
-port-back : (p : SdrrMcuPort) → portOf (portNumber p) ≡ p
-unfolding portOf portNumber
-port-back SdrrMcuPort.None = refl
-port-back SdrrMcuPort.PortA = refl
-port-back SdrrMcuPort.PortB = refl
-port-back SdrrMcuPort.PortC = refl
-port-back SdrrMcuPort.PortD = refl
-port-back SdrrMcuPort.Port0 = refl
 
 pins-back : (i : PinsItem) → pinsIn (pinsOut i) ≡ i
 unfolding pinsIn pinsOut
 pins-back i =
     rw
-    (port-back (i .pins .«data_port»), port-back (i .pins .«addr_port»), port-back (i .pins .«cs_port»), port-back (i .pins .«sel_port»), port-back (i .pins .«status_port»))
+    (port-again (i .pins .«data_port»), port-again (i .pins .«addr_port»), port-again (i .pins .«cs_port»), port-again (i .pins .«sel_port»), port-again (i .pins .«status_port»))
     refl
 
 base-back : (f c : ℕ) (l : McuLine) → baseAfter f c (lineIn (lineNumber l)) ≡ baseAfter f c l
-unfolding isRp2350 lineNumber
+unfolding isRp2350
 base-back f c McuLine.F401DE = refl
 base-back f c McuLine.F405 = refl
 base-back f c McuLine.F411 = refl
@@ -41,5 +32,5 @@ pub record Handed (flashBase cs0Base : ℕ) (r : SdrrInfo) : Type 0 where
   pub served : boardIn flashBase cs0Base (reportOut r) .served ≡ r .«rom_sets» .served
 
 pub handed-back : (flashBase cs0Base : ℕ) (r : SdrrInfo) → Handed flashBase cs0Base r
-unfolding boardIn reportOut headerOut lineNumber setsOut
+unfolding boardIn reportOut headerOut setsOut
 handed-back f c r = record { base = base-back f c (r .fields .«stm_line»); pins = pins-back (r .pins); served = refl }

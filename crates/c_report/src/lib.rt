@@ -10,10 +10,7 @@ use pins::PinsItem;
 use pins::SdrrPins;
 use text::Text;
 use types::McuLine;
-use types::McuStorage;
-use types::SdrrMcuPort;
 ghost use mathlib.Core.Path.{_≡_};
-ghost use Rattle.types.specs.Types.{lineNumber, storageNumber, portNumber};
 ghost use Rattle.c_report.specs.Report.{bit, headerOut, stringOut, pioNumber, extraOut, metadataOut, setsOut, pinsOut, reportOut, lineIn, pinsIn, boardIn};
 
 #[repr(C)]
@@ -123,47 +120,6 @@ fn bit_of(b: bool) -> u8
     if b { 1 } else { 0 }
 }
 
-fn line_number(line: McuLine) -> u8
-    ensures { λ r. ⌜ r ≡ lineNumber line ⌝ }
-{
-    match line {
-        McuLine::F401DE => 0,
-        McuLine::F405 => 1,
-        McuLine::F411 => 2,
-        McuLine::F446 => 3,
-        McuLine::F401BC => 4,
-        McuLine::Rp2350 => 5,
-    }
-}
-
-fn storage_number(storage: McuStorage) -> u8
-    ensures { λ r. ⌜ r ≡ storageNumber storage ⌝ }
-{
-    match storage {
-        McuStorage::Storage8 => 0,
-        McuStorage::StorageB => 1,
-        McuStorage::StorageC => 2,
-        McuStorage::StorageD => 3,
-        McuStorage::StorageE => 4,
-        McuStorage::StorageF => 5,
-        McuStorage::StorageG => 6,
-        McuStorage::Storage2MB => 7,
-    }
-}
-
-fn port_number(port: SdrrMcuPort) -> u8
-    ensures { λ r. ⌜ r ≡ portNumber port ⌝ }
-{
-    match port {
-        SdrrMcuPort::None => 0,
-        SdrrMcuPort::PortA => 1,
-        SdrrMcuPort::PortB => 2,
-        SdrrMcuPort::PortC => 3,
-        SdrrMcuPort::PortD => 4,
-        SdrrMcuPort::Port0 => 5,
-    }
-}
-
 fn header_out(f: SdrrInfoFields) -> OneromHeader
     ensures { λ r. ⌜ r ≡ headerOut f ⌝ }
 {
@@ -179,8 +135,8 @@ fn header_out(f: SdrrInfoFields) -> OneromHeader
         build: version.build,
         freq: f.freq,
         commit,
-        line: line_number(line),
-        storage: storage_number(storage),
+        line: types::line_number(line),
+        storage: types::storage_number(storage),
         overclock: bit_of(f.overclock),
         swd_enabled: bit_of(f.swd_enabled),
         preload_image_to_ram: bit_of(f.preload_image_to_ram),
@@ -221,7 +177,7 @@ fn extra_out(i: ExtraInfoItem) -> OneromExtraInfo
     OneromExtraInfo {
         number: i.number,
         usb_dfu: bit_of(e.usb_dfu),
-        usb_port: port_number(usb_port),
+        usb_port: types::port_number(usb_port),
         vbus_pin: e.vbus_pin,
         fire_pio_default: pio_number(pio),
         rtt_ptr: e.rtt_ptr,
@@ -269,11 +225,11 @@ fn pins_out(i: PinsItem) -> OneromPins
     let addr2 = p.addr2;
     OneromPins {
         number: i.number,
-        data_port: port_number(data_port),
-        addr_port: port_number(addr_port),
-        cs_port: port_number(cs_port),
-        sel_port: port_number(sel_port),
-        status_port: port_number(status_port),
+        data_port: types::port_number(data_port),
+        addr_port: types::port_number(addr_port),
+        cs_port: types::port_number(cs_port),
+        sel_port: types::port_number(sel_port),
+        status_port: types::port_number(status_port),
         rom_pins: p.rom_pins,
         data,
         addr,

@@ -5,7 +5,7 @@ use mathlib.Core.List.{List, [], _∷_}
 use lib.Dec.{ltb}
 use lib.ListN.{length}
 use Rattle.base.specs.Choice.{pick}
-use Rattle.le.specs.Le.{u8At, u16At, u32At, flagAt, startsWith}
+use Rattle.le.specs.Le.{u8At, u16At, u32At, fourAt, eightAt, flagAt, startsWith}
 use Rattle.types.specs.declared.McuLine.{McuLine}
 use Rattle.types.specs.declared.McuStorage.{McuStorage}
 use Rattle.types.specs.Types.{lineOf, isRp2350, storageOf}
@@ -23,13 +23,6 @@ magic = 83 ∷ 68 ∷ 82 ∷ 82 ∷ []
 -- u16 major 4, minor 6, patch 8, build 10
 abbrev pub versionOf : List ℕ → FirmwareVersion
 versionOf s = version (u16At s 4) (u16At s 6) (u16At s 8) (u16At s 10)
-
-abbrev pub fourAt : List ℕ → ℕ → List ℕ
-fourAt s at = u8At s at ∷ u8At s (at + 1) ∷ u8At s (at + 2) ∷ u8At s (at + 3) ∷ []
-
-abbrev pub eightAt : List ℕ → ℕ → List ℕ
-eightAt s at =
-    u8At s at ∷ u8At s (at + 1) ∷ u8At s (at + 2) ∷ u8At s (at + 3) ∷ u8At s (at + 4) ∷ u8At s (at + 5) ∷ u8At s (at + 6) ∷ u8At s (at + 7) ∷ []
 
 -- commit of eight bytes 16; u16 line 28, storage 30, frequency 32; flags 34..40: overclock, SWD, preload, bootloader, LED, boot logging, MCO;
 -- counting flag 42; boot config 52

@@ -5,10 +5,8 @@ use version::FirmwareVersion;
 ghost use mathlib.Core.Path.{_≡_};
 ghost use Prim.Native.Nat.{_≤_};
 ghost use lib.ListN.{length};
-ghost use Rattle.window.specs.Window.{baseAfter};
-ghost use Rattle.types.specs.Types.{lineOf, storageOf};
 ghost use Rattle.prog.specs.Prog.{run};
-ghost use Rattle.header.specs.Header.{versionOf, fourAt, eightAt, fieldsOf, extraPointer, wholeOf, noHeader, refused, headerOf, headerP, hasFilenames};
+ghost use Rattle.header.specs.Header.{versionOf, fieldsOf, extraPointer, wholeOf, noHeader, refused, headerOf, headerP, hasFilenames};
 
 const HEADER_SIZE: usize = 64;
 
@@ -57,34 +55,6 @@ pub fn filenames_enabled(fields: SdrrInfoFields) -> bool
     )
 }
 
-fn mcu_line(number: u16) -> McuLine
-    ensures { λ r. ⌜ r ≡ lineOf number ⌝ }
-{
-    match number {
-        1 => McuLine::F405,
-        2 => McuLine::F411,
-        3 => McuLine::F446,
-        4 => McuLine::F401BC,
-        5 => McuLine::Rp2350,
-        _ => McuLine::F401DE,
-    }
-}
-
-fn mcu_storage(number: u16) -> McuStorage
-    ensures { λ r. ⌜ r ≡ storageOf number ⌝ }
-{
-    match number {
-        1 => McuStorage::StorageB,
-        2 => McuStorage::StorageC,
-        3 => McuStorage::StorageD,
-        4 => McuStorage::StorageE,
-        5 => McuStorage::StorageF,
-        6 => McuStorage::StorageG,
-        7 => McuStorage::Storage2MB,
-        _ => McuStorage::Storage8,
-    }
-}
-
 fn read_version(s: &[u8]) -> FirmwareVersion
     ensures { λ r. ⌜ r ≡ versionOf (now (s .entry)) ⌝ }
 {
@@ -96,29 +66,15 @@ fn read_version(s: &[u8]) -> FirmwareVersion
     }
 }
 
-fn read_commit(s: &[u8]) -> [u8; 8]
-    requires { ⌜ 64 ≤ length (now s) ⌝ }
-    ensures { λ r. ⌜ r ≡ eightAt (now (s .entry)) 16 ⌝ }
-{
-    [s[16], s[17], s[18], s[19], s[20], s[21], s[22], s[23]]
-}
-
-fn read_boot_config(s: &[u8]) -> [u8; 4]
-    requires { ⌜ 64 ≤ length (now s) ⌝ }
-    ensures { λ r. ⌜ r ≡ fourAt (now (s .entry)) 52 ⌝ }
-{
-    [s[52], s[53], s[54], s[55]]
-}
-
 fn read_fields(s: &[u8]) -> SdrrInfoFields
     requires { ⌜ 64 ≤ length (now s) ⌝ }
     ensures { λ r. ⌜ r ≡ fieldsOf (now (s .entry)) ⌝ }
 {
     SdrrInfoFields {
         version: read_version(s),
-        commit: read_commit(s),
-        stm_line: mcu_line(le::u16_at(s, 28)),
-        stm_storage: mcu_storage(le::u16_at(s, 30)),
+        commit: le::eight_at(s, 16),
+        stm_line: types::line_of(le::u16_at(s, 28)),
+        stm_storage: types::storage_of(le::u16_at(s, 30)),
         freq: le::u16_at(s, 32),
         overclock: s[34] != 0,
         swd_enabled: s[35] != 0,
@@ -128,7 +84,7 @@ fn read_fields(s: &[u8]) -> SdrrInfoFields
         boot_logging_enabled: s[39] != 0,
         mco_enabled: s[40] != 0,
         count_rom_access: s[42] != 0,
-        boot_config: read_boot_config(s),
+        boot_config: le::four_at(s, 52),
     }
 }
 

@@ -1,23 +1,16 @@
 -- Document 01, "Pins": 88 bytes read.
-use Prim.Native.Nat.{ℕ, _+_}
+use Prim.Native.Nat.{ℕ}
 use mathlib.Core.Bool.{Bool, _||_}
 use mathlib.Core.List.{List, [], _∷_, _++_}
 use lib.Dec.{ltb, eqb}
 use lib.ListN.{length}
 use Rattle.base.specs.Choice.{pick}
-use Rattle.le.specs.Le.{u8At}
+use Rattle.le.specs.Le.{u8At, eightAt, sixteenAt}
 use Rattle.types.specs.declared.SdrrMcuPort.{SdrrMcuPort}
 use Rattle.types.specs.Types.{portOf}
 use Rattle.prog.specs.Prog.{Prog, recordP}
 use Rattle.pins.specs.declared.SdrrPins.{SdrrPins}
 use Rattle.pins.specs.declared.PinsItem.{PinsItem}
-
-abbrev pub eightAt : List ℕ → ℕ → List ℕ
-eightAt s at =
-    u8At s at ∷ u8At s (at + 1) ∷ u8At s (at + 2) ∷ u8At s (at + 3) ∷ u8At s (at + 4) ∷ u8At s (at + 5) ∷ u8At s (at + 6) ∷ u8At s (at + 7) ∷ []
-
-abbrev pub sixteenAt : List ℕ → ℕ → List ℕ
-sixteenAt s at = eightAt s at ++ eightAt s (at + 8)
 
 abbrev pub eightZeros : List ℕ
 eightZeros = 0 ∷ 0 ∷ 0 ∷ 0 ∷ 0 ∷ 0 ∷ 0 ∷ 0 ∷ []

@@ -2,13 +2,13 @@
 use types::SdrrMcuPort;
 ghost use mathlib.Core.Path.{_≡_};
 ghost use mathlib.Core.List.{_++_};
-ghost use Prim.Native.Nat.{_+_, _≤_};
+ghost use Prim.Native.Nat.{_≤_};
 ghost use lib.Dec.{eqb};
 ghost use lib.ListN.{length};
 ghost use Rattle.base.specs.Choice.{pick};
-ghost use Rattle.le.specs.Le.{u8At};
+ghost use Rattle.le.specs.Le.{u8At, eightAt, sixteenAt};
 ghost use Rattle.prog.specs.Prog.{run};
-ghost use Rattle.pins.specs.Pins.{eightAt, sixteenAt, eightZeros, fieldsOf, noPins, refused, unknownPort, pinsOf, pinsP};
+ghost use Rattle.pins.specs.Pins.{eightZeros, fieldsOf, noPins, refused, unknownPort, pinsOf, pinsP};
 
 const PINS_SIZE: usize = 88;
 
@@ -102,46 +102,6 @@ pub fn refuse(number: u8) -> PinsItem
     PinsItem { number, pins }
 }
 
-fn eight(s: &[u8], at: usize) -> [u8; 8]
-    requires { ⌜ at + 8 ≤ length (now s) ⌝ }
-    ensures { λ r. ⌜ r ≡ eightAt (now (s .entry)) at ⌝ }
-{
-    [
-        s[at],
-        s[at + 1],
-        s[at + 2],
-        s[at + 3],
-        s[at + 4],
-        s[at + 5],
-        s[at + 6],
-        s[at + 7],
-    ]
-}
-
-fn sixteen(s: &[u8], at: usize) -> [u8; 16]
-    requires { ⌜ at + 16 ≤ length (now s) ⌝ }
-    ensures { λ r. ⌜ r ≡ sixteenAt (now (s .entry)) at ⌝ }
-{
-    [
-        s[at],
-        s[at + 1],
-        s[at + 2],
-        s[at + 3],
-        s[at + 4],
-        s[at + 5],
-        s[at + 6],
-        s[at + 7],
-        s[at + 8],
-        s[at + 9],
-        s[at + 10],
-        s[at + 11],
-        s[at + 12],
-        s[at + 13],
-        s[at + 14],
-        s[at + 15],
-    ]
-}
-
 // Extended is exactly 1: any other byte gives no second pins.
 fn is_extended(s: &[u8]) -> bool
     ensures { λ r. ⌜ r ≡ eqb (u8At (now (s .entry)) 63) 1 ⌝ }
@@ -151,22 +111,20 @@ fn is_extended(s: &[u8]) -> bool
 
 // The second data pins; zeros where the record is not extended.
 fn second_data(s: &[u8]) -> [u8; 8]
-    requires { ⌜ 88 ≤ length (now s) ⌝ }
     ensures { λ r. ⌜ r ≡ pick (eqb (u8At (now (s .entry)) 63) 1) (eightAt (now (s .entry)) 64) eightZeros ⌝ }
 {
     if is_extended(s) {
-        return eight(s, 64);
+        return le::eight_at(s, 64);
     }
     [0; 8]
 }
 
 // The second address pins; zeros where the record is not extended.
 fn second_addr(s: &[u8]) -> [u8; 16]
-    requires { ⌜ 88 ≤ length (now s) ⌝ }
     ensures { λ r. ⌜ r ≡ pick (eqb (u8At (now (s .entry)) 63) 1) (sixteenAt (now (s .entry)) 72) (eightZeros ++ eightZeros) ⌝ }
 {
     if is_extended(s) {
-        return sixteen(s, 72);
+        return le::sixteen_at(s, 72);
     }
     [0; 16]
 }
@@ -196,8 +154,8 @@ fn read_fields(s: &[u8]) -> SdrrPins
         sel_port: types::port_of(s[3]),
         status_port: types::port_of(s[4]),
         rom_pins: s[5],
-        data: eight(s, 8),
-        addr: sixteen(s, 16),
+        data: le::eight_at(s, 8),
+        addr: le::sixteen_at(s, 16),
         cs1: s[36],
         cs2: s[37],
         cs3: s[38],

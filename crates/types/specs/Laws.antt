@@ -2,17 +2,17 @@
 -- Assumes nothing.
 use Prim.Native.Nat.{ℕ, zero, suc, _<_}
 use native.Mathlib.Omega.{arith}
-use mathlib.Core.Path.{_≡_, refl}
+use mathlib.Core.Path.{_≡_, refl, sym, ap}
 use mathlib.Core.List.{List, _∷_}
-use lib.ListN.{length, getD, drop, List·getD-eq-default}
+use lib.ListN.{length, getD, List·getD-eq-default}
 use Rattle.types.specs.declared.McuLine.{McuLine}
 use Rattle.types.specs.declared.McuStorage.{McuStorage}
 use Rattle.types.specs.declared.SdrrMcuPort.{SdrrMcuPort}
 use Rattle.types.specs.declared.SdrrRomType.{SdrrRomType}
-use Rattle.types.specs.Types.{lineNumber, lines, lineOf, storageNumber, storages, storageOf, portNumber, ports, portOf, romTypeNumber, romTypes, romTypeOf}
+use Rattle.types.specs.Types.{lineNumber, lineOf, storageNumber, storageOf, portNumber, portOf, romTypeNumber, romTypeOf}
 
 pub line-again : (v : McuLine) → lineOf (lineNumber v) ≡ v
-unfolding lineOf lineNumber
+unfolding lineOf
 line-again McuLine.F401DE = refl
 line-again McuLine.F405 = refl
 line-again McuLine.F411 = refl
@@ -21,7 +21,7 @@ line-again McuLine.F401BC = refl
 line-again McuLine.Rp2350 = refl
 
 pub storage-again : (v : McuStorage) → storageOf (storageNumber v) ≡ v
-unfolding storageOf storageNumber
+unfolding storageOf
 storage-again McuStorage.Storage8 = refl
 storage-again McuStorage.StorageB = refl
 storage-again McuStorage.StorageC = refl
@@ -32,7 +32,7 @@ storage-again McuStorage.StorageG = refl
 storage-again McuStorage.Storage2MB = refl
 
 pub port-again : (v : SdrrMcuPort) → portOf (portNumber v) ≡ v
-unfolding portOf portNumber
+unfolding portOf
 port-again SdrrMcuPort.None = refl
 port-again SdrrMcuPort.PortA = refl
 port-again SdrrMcuPort.PortB = refl
@@ -77,27 +77,10 @@ rom-type-again SdrrRomType.Rom23QL384 = refl
 rom-type-again SdrrRomType.Rom23C1001 = refl
 rom-type-again SdrrRomType.Rom27C200 = refl
 
--- ---- of a number that is none, the first case
+-- ---- what the arms of a match give: in the arm of a key, the function's value at the key; in the last arm, the first case
 
-first-case : {A : Type 0} (a : A) (l : List A) (n : ℕ) → (0 < n → length l < n) → getD (a ∷ l) n a ≡ a
-first-case a l zero h = refl
-first-case a l (suc n) h = List·getD-eq-default l a (let i = h (omega arith) in omega arith)
-
-pub line-unknown : (n : ℕ) → (0 < n → 5 < n) → lineOf n ≡ McuLine.F401DE
-unfolding lineOf
-line-unknown n h = first-case McuLine.F401DE (drop 1 lines) n h
-
-pub storage-unknown : (n : ℕ) → (0 < n → 7 < n) → storageOf n ≡ McuStorage.Storage8
-unfolding storageOf
-storage-unknown n h = first-case McuStorage.Storage8 (drop 1 storages) n h
-
-pub port-unknown : (n : ℕ) → (0 < n → 5 < n) → portOf n ≡ SdrrMcuPort.None
-unfolding portOf
-port-unknown n h = first-case SdrrMcuPort.None (drop 1 ports) n h
-
-pub rom-type-unknown : (n : ℕ) → (0 < n → 33 < n) → romTypeOf n ≡ SdrrRomType.Rom2316
-unfolding romTypeOf
-rom-type-unknown n h = first-case SdrrRomType.Rom2316 (drop 1 romTypes) n h
+pub at-key : {A B : Type 0} (f : A → B) {a key : A} → a ≡ key → f key ≡ f a
+at-key f e = sym (ap f e)
 
 -- a number that is none of 1 to k, as a match leaves it
 abbrev pub NoneOf : ℕ → ℕ → Type 0
@@ -107,6 +90,10 @@ NoneOf n (suc k) = NoneOf n k × (n ≡ suc k → ⊥)
 next-above : (n k : ℕ) → k < n → (n ≡ suc k → ⊥) → suc k < n
 next-above n k h f = omega arith
 
-pub above : (n k : ℕ) → NoneOf n k → 0 < n → k < n
+above : (n k : ℕ) → NoneOf n k → 0 < n → k < n
 above n zero r h = h
 above n (suc k) r h = next-above n k (above n k (r .0) h) (r .1)
+
+pub at-none : {A : Type 0} (a : A) (l : List A) (n : ℕ) → NoneOf n (length l) → a ≡ getD (a ∷ l) n a
+at-none a l zero r = refl
+at-none a l (suc n) r = sym (List·getD-eq-default l a (let h = above (suc n) (length l) r (omega arith) in omega arith))

@@ -10,7 +10,7 @@ use Rattle.types.specs.declared.SdrrRomType.{SdrrRomType}
 use Rattle.types.specs.declared.Level.{Level}
 
 -- line (0..5, 5 = Rp2350)
-unfoldable pub lineNumber : McuLine → ℕ
+abbrev pub lineNumber : McuLine → ℕ
 lineNumber McuLine.F401DE = 0
 lineNumber McuLine.F405 = 1
 lineNumber McuLine.F411 = 2
@@ -33,7 +33,7 @@ isRp2350 McuLine.F401BC = false
 isRp2350 McuLine.Rp2350 = true
 
 -- storage (0..7)
-unfoldable pub storageNumber : McuStorage → ℕ
+abbrev pub storageNumber : McuStorage → ℕ
 storageNumber McuStorage.Storage8 = 0
 storageNumber McuStorage.StorageB = 1
 storageNumber McuStorage.StorageC = 2
@@ -50,7 +50,7 @@ unfoldable pub storageOf : ℕ → McuStorage
 storageOf n = getD storages n McuStorage.Storage8
 
 -- ports (each 0..5); of a number that is none the USB port becomes None, which is 0
-unfoldable pub portNumber : SdrrMcuPort → ℕ
+abbrev pub portNumber : SdrrMcuPort → ℕ
 portNumber SdrrMcuPort.None = 0
 portNumber SdrrMcuPort.PortA = 1
 portNumber SdrrMcuPort.PortB = 2

@@ -9,8 +9,6 @@ use metadata::MetadataAnswer;
 use pins::PinsItem;
 use pins::SdrrPins;
 use text::Text;
-use types::McuLine;
-use types::McuStorage;
 use types::SdrrMcuPort;
 use version::FirmwareVersion;
 
@@ -71,38 +69,7 @@ pub(crate) fn metadata(m: MetadataAnswer) {
 }
 
 fn port(p: SdrrMcuPort) {
-    match p {
-        SdrrMcuPort::None => next(0),
-        SdrrMcuPort::PortA => next(1),
-        SdrrMcuPort::PortB => next(2),
-        SdrrMcuPort::PortC => next(3),
-        SdrrMcuPort::PortD => next(4),
-        SdrrMcuPort::Port0 => next(5),
-    }
-}
-
-fn line(l: McuLine) {
-    match l {
-        McuLine::F401DE => next(0),
-        McuLine::F405 => next(1),
-        McuLine::F411 => next(2),
-        McuLine::F446 => next(3),
-        McuLine::F401BC => next(4),
-        McuLine::Rp2350 => next(5),
-    }
-}
-
-fn storage(s: McuStorage) {
-    match s {
-        McuStorage::Storage8 => next(0),
-        McuStorage::StorageB => next(1),
-        McuStorage::StorageC => next(2),
-        McuStorage::StorageD => next(3),
-        McuStorage::StorageE => next(4),
-        McuStorage::StorageF => next(5),
-        McuStorage::StorageG => next(6),
-        McuStorage::Storage2MB => next(7),
-    }
+    byte(types::port_number(p));
 }
 
 fn pio_default(p: FirePioDefault) {
@@ -165,9 +132,9 @@ fn fields(f: SdrrInfoFields) {
     let commit = f.commit;
     eight(commit);
     let l = f.stm_line;
-    line(l);
+    byte(types::line_number(l));
     let s = f.stm_storage;
-    storage(s);
+    byte(types::storage_number(s));
     next(f.freq as u32);
     flags(f);
     let boot = f.boot_config;

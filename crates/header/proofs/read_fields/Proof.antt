@@ -9,20 +9,20 @@ use Rattle.header.proofs.read_fields.Tie as tie
 read-version-requires : tie.Need-read-version-requires
 read-version-requires c κs = search needs
 
-read-commit-requires : tie.Need-read-commit-requires
-read-commit-requires c κs = search needs
+eight-at-requires : tie.Need-eight-at-requires
+eight-at-requires c κs = search needs
 
 u16-at-requires : tie.Need-u16-at-requires
 u16-at-requires c κs = search needs
 
-mcu-line-requires : tie.Need-mcu-line-requires
-mcu-line-requires c κs = search needs
+line-of-requires : tie.Need-line-of-requires
+line-of-requires c κs = search needs
 
 u16-at-requires-2 : tie.Need-u16-at-requires-2
 u16-at-requires-2 c κs = search needs
 
-mcu-storage-requires : tie.Need-mcu-storage-requires
-mcu-storage-requires c κs = search needs
+storage-of-requires : tie.Need-storage-of-requires
+storage-of-requires c κs = search needs
 
 u16-at-requires-3 : tie.Need-u16-at-requires-3
 u16-at-requires-3 c κs = search needs
@@ -51,8 +51,8 @@ shared-slice-read-t28 c = search needs
 shared-slice-read-t31 : tie.Need-shared-slice-read-t31
 shared-slice-read-t31 c = search needs
 
-read-boot-config-requires : tie.Need-read-boot-config-requires
-read-boot-config-requires c κs = search needs
+four-at-requires : tie.Need-four-at-requires
+four-at-requires c κs = search needs
 
 returns : tie.Need-returns
 unfolding fieldsOf
@@ -65,9 +65,9 @@ returns c =
     λ i.
     record {
       version = commit .before .read-version .ensures i;
-      commit = commit .read-commit .ensures i;
-      «stm_line» = (line .mcu-line .ensures ∙ ap lineOf (line .before .u16-at .ensures)) i;
-      «stm_storage» = (storage .mcu-storage .ensures ∙ ap storageOf (storage .before .u16-at2 .ensures)) i;
+      commit = commit .eight-at .ensures i;
+      «stm_line» = (line .line-of .ensures ∙ ap lineOf (line .before .u16-at .ensures)) i;
+      «stm_storage» = (storage .storage-of .ensures ∙ ap storageOf (storage .before .u16-at2 .ensures)) i;
       freq = freq .u16-at3 .ensures i;
       overclock = flagAt s 34;
       «swd_enabled» = flagAt s 35;
@@ -77,7 +77,7 @@ returns c =
       «boot_logging_enabled» = flagAt s 39;
       «mco_enabled» = flagAt s 40;
       «count_rom_access» = flagAt s 42;
-      «boot_config» = c .read-boot-config .ensures i;
+      «boot_config» = c .four-at .ensures i;
     }
 
 pub read-fields-spec : {M : Type 1} → statement M
@@ -85,11 +85,11 @@ read-fields-spec =
     tie.close
     (tie.spec
     read-version-requires
-    read-commit-requires
+    eight-at-requires
     u16-at-requires
-    mcu-line-requires
+    line-of-requires
     u16-at-requires-2
-    mcu-storage-requires
+    storage-of-requires
     u16-at-requires-3
     shared-slice-read-t10
     shared-slice-read-t13
@@ -99,5 +99,5 @@ read-fields-spec =
     shared-slice-read-t25
     shared-slice-read-t28
     shared-slice-read-t31
-    read-boot-config-requires
+    four-at-requires
     returns)

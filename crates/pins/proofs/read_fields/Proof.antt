@@ -38,11 +38,11 @@ port-of-requires-5 c κs = search needs
 shared-slice-read-t18 : tie.Need-shared-slice-read-t18
 shared-slice-read-t18 c = omega arith
 
-eight-requires : tie.Need-eight-requires
-eight-requires c κs = search needs
+eight-at-requires : tie.Need-eight-at-requires
+eight-at-requires c κs = search needs
 
-sixteen-requires : tie.Need-sixteen-requires
-sixteen-requires c κs = search needs
+sixteen-at-requires : tie.Need-sixteen-at-requires
+sixteen-at-requires c κs = search needs
 
 shared-slice-read-t22 : tie.Need-shared-slice-read-t22
 shared-slice-read-t22 c = omega arith
@@ -137,8 +137,8 @@ returns c =
       «sel_port» = port4 .port-of4 .ensures i;
       «status_port» = port5 .port-of5 .ensures i;
       «rom_pins» = u8At s 5;
-      «data» = arrays .before .eight .ensures i;
-      addr = arrays .sixteen .ensures i;
+      «data» = arrays .before .eight-at .ensures i;
+      addr = arrays .sixteen-at .ensures i;
       cs1 = u8At s 36;
       cs2 = u8At s 37;
       cs3 = u8At s 38;
@@ -181,8 +181,8 @@ read-fields-spec =
     shared-slice-read-port-of-5
     port-of-requires-5
     shared-slice-read-t18
-    eight-requires
-    sixteen-requires
+    eight-at-requires
+    sixteen-at-requires
     shared-slice-read-t22
     shared-slice-read-t24
     shared-slice-read-t26

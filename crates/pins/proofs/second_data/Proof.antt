@@ -6,14 +6,14 @@ use Rattle.pins.proofs.second_data.Tie as tie
 is-extended-requires : tie.Need-is-extended-requires
 is-extended-requires c κs = search needs
 
-eight-requires : tie.Need-eight-requires
-eight-requires c κs = search needs
+eight-at-requires : tie.Need-eight-at-requires
+eight-at-requires c κs = search needs
 
 returns : tie.Need-returns
-returns c = rw (sym (c .before .before .is-extended .ensures) ∙ c .before .if1 .taken) (c .eight .ensures)
+returns c = rw (sym (c .before .before .is-extended .ensures) ∙ c .before .if1 .taken) (c .eight-at .ensures)
 
 returns-2 : tie.Need-returns-2
 returns-2 c = rw (sym (c .before .is-extended .ensures) ∙ c .if1 .left)
 
 pub second-data-spec : {M : Type 1} → statement M
-second-data-spec = tie.close (tie.spec is-extended-requires eight-requires returns returns-2)
+second-data-spec = tie.close (tie.spec is-extended-requires eight-at-requires returns returns-2)

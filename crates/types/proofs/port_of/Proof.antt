@@ -1,32 +1,18 @@
-use native.Mathlib.Omega.{arith}
-use mathlib.Core.Path.{_≡_, sym}
-use Rattle.types.specs.Types.{portOf}
-use Rattle.types.specs.Laws.{port-unknown}
+use lib.ListN.{drop}
+use Rattle.types.specs.declared.SdrrMcuPort.{SdrrMcuPort}
+use Rattle.types.specs.Types.{ports, portOf}
+use Rattle.types.specs.Laws.{at-key, at-none}
 use Rattle.types.proofs.port_of.Statement.{statement}
 use Rattle.types.proofs.port_of.Tie as tie
 
-returns : tie.Need-returns
-unfolding portOf
-returns c = let e : c .before .args .number ≡ 1 = omega arith in rw e
-
-returns-2 : tie.Need-returns-2
-unfolding portOf
-returns-2 c = let e : c .before .args .number ≡ 2 = omega arith in rw e
-
-returns-3 : tie.Need-returns-3
-unfolding portOf
-returns-3 c = let e : c .before .args .number ≡ 3 = omega arith in rw e
-
-returns-4 : tie.Need-returns-4
-unfolding portOf
-returns-4 c = let e : c .before .args .number ≡ 4 = omega arith in rw e
-
-returns-5 : tie.Need-returns-5
-unfolding portOf
-returns-5 c = let e : c .before .args .number ≡ 5 = omega arith in rw e
-
-returns-6 : tie.Need-returns-6
-returns-6 c = sym (port-unknown (c .before .args .number) (λ h. omega arith))
-
 pub port-of-spec : {M : Type 1} → statement M
-port-of-spec = tie.close (tie.spec returns returns-2 returns-3 returns-4 returns-5 returns-6)
+unfolding portOf
+port-of-spec =
+    tie.close
+    (tie.spec
+    (λ c. at-key portOf (c .match .keys1))
+    (λ c. at-key portOf (c .match .keys2))
+    (λ c. at-key portOf (c .match .keys3))
+    (λ c. at-key portOf (c .match .keys4))
+    (λ c. at-key portOf (c .match .keys5))
+    (λ c. at-none SdrrMcuPort.None (drop 1 ports) (c .before .args .number) (c .match .rest)))

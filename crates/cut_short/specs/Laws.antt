@@ -2,3 +2,4 @@ pub mod Cuts
 pub mod CutOpening
 pub mod CutReads
 pub mod Proof
+pub mod Promises

@@ -2,4 +2,3 @@ pub mod Shown
 pub mod FirstRead
 pub mod Demand3
 pub mod Laws
-pub mod Promises

@@ -7,8 +7,8 @@ use mathlib.Core.List.{List}
 use lib.ListN.{length, take}
 use borrow.Author.Tests.{lt-ltb, le-ltb}
 use Rattle.le.specs.Le.{flagAt}
-use Rattle.prog.specs.Honest.{Honest, honesty}
-use Rattle.prog.specs.Record.{front-byte, front-short}
+use Rattle.prog.specs.Laws.Honest.{Honest, honesty}
+use Rattle.prog.specs.Laws.Record.{front-byte, front-short}
 use Rattle.version.specs.declared.FirmwareVersion.{FirmwareVersion}
 use Rattle.version.specs.Version.{from060}
 use Rattle.extra_info.specs.declared.FirePioDefault.{FirePioDefault}

@@ -1,9 +1,5 @@
 pub mod Opening
 pub mod Reply
-pub mod Parts
-pub mod Items
-pub mod OpenSteps
-pub mod Sanity
-pub mod Fits
-pub mod Promises
-pub mod Boards
+pub mod Code
+pub mod Laws
+pub mod Examples

@@ -15,7 +15,7 @@ ghost use Rattle.walk.specs.Names.{walkNamesP};
 ghost use Rattle.rom_rows.specs.Reply as rows;
 ghost use Rattle.fw_parser.specs.Opening.{opening, setRowsLeft, romRowsLeft};
 ghost use Rattle.fw_parser.specs.Reply.{noReport, replyOf, boardOf};
-ghost use Rattle.fw_parser.specs.Parts.{walkOf, isShort, itemOf, reportWith};
+ghost use Rattle.fw_parser.specs.Code.{walkOf, isShort, itemOf, reportWith};
 
 // Where the image stands: its base, the base for an Rp2350, and the header's offset.
 pub struct Settings {

@@ -11,8 +11,8 @@ use borrow.Author.Tests.{lt-ltb, le-ltb, eq-eqb, ne-eqb}
 use Rattle.window.specs.Window.{canRead, onFrom}
 use Rattle.le.specs.Le.{u16At, u32At, startsWith}
 use Rattle.prog.specs.Prog.{run}
-use Rattle.prog.specs.Honest.{Honest, honesty}
-use Rattle.prog.specs.Record.{front-byte, front-short, front-starts, record-ended, record-onward}
+use Rattle.prog.specs.Laws.Honest.{Honest, honesty}
+use Rattle.prog.specs.Laws.Record.{front-byte, front-short, front-starts, record-ended, record-onward}
 use Rattle.header.specs.declared.HeaderAnswer.{HeaderAnswer}
 use Rattle.version.specs.Version.{below04, from070}
 use Rattle.header.specs.Header.{magic, versionOf, fieldsOf, extraPointer, wholeOf, refused, headerOf, headerP}

@@ -16,9 +16,9 @@ use Rattle.mangle.specs.declared.Placed.{Placed}
 use Rattle.mangle.specs.Bits.{taken, gather}
 use Rattle.mangle.specs.Demangle.{allBelow}
 use Rattle.mangle.specs.PinMap.{off, controlOff}
-use Rattle.mangle.specs.RaiseLaws.{raisedBy}
+use Rattle.mangle.specs.Laws.Raise.{raisedBy}
 use Rattle.mangle.specs.Rules.{isBit}
-use Rattle.mangle.specs.Words.{onPins, allHigh, stepPin, onControl, onControls}
+use Rattle.mangle.specs.Code.{onPins, allHigh, stepPin, onControl, onControls}
 
 -- the first i of l are done, the others follow
 pub map-on : (f : ℕ → ℕ) (l ps : List ℕ) (i : ℕ) → i < length l → i < length ps

@@ -4,9 +4,6 @@ pub mod Bits
 pub mod PinMap
 pub mod Mangle
 pub mod Demangle
+pub mod Code
 pub mod Laws
-pub mod LeastLaws
-pub mod RaiseLaws
-pub mod Words
-pub mod WordLaws
-pub mod Cases
+pub mod Examples

@@ -6,7 +6,7 @@ ghost use mathlib.Core.List.{map};
 ghost use Prim.Native.Nat.{_-_};
 ghost use Rattle.base.specs.Choice.{pick};
 ghost use Rattle.mangle.specs.BaseZero.{lowered, has24, leastPin, loweredBy, baseZero};
-ghost use Rattle.mangle.specs.LeastLaws.{lesser, leastOfFour};
+ghost use Rattle.mangle.specs.Laws.Least.{lesser, leastOfFour};
 
 fn lesser(a: u8, b: u8) -> u8
     ensures { λ r. ⌜ r ≡ lesser a b ⌝ }

@@ -5,7 +5,7 @@ ghost use lib.Bits.{bitOr};
 ghost use lib.ListN.{length};
 ghost use Rattle.base.specs.Choice.{pick};
 ghost use Rattle.mangle.specs.Bits.{taken, gather};
-ghost use Rattle.mangle.specs.RaiseLaws.{raisedBy};
+ghost use Rattle.mangle.specs.Laws.Raise.{raisedBy};
 
 pub(crate) fn pick_num(c: bool, a: u8, b: u8) -> u8
     ensures { λ r. ⌜ r ≡ pick c a b ⌝ }

@@ -17,9 +17,9 @@ ghost use Rattle.base.specs.Choice.{pick};
 ghost use Rattle.mangle.specs.BaseZero.{lowered};
 ghost use Rattle.mangle.specs.Rules.{isBit};
 ghost use Rattle.mangle.specs.PinMap.{off, controlOff};
-ghost use Rattle.mangle.specs.LeastLaws.{allFrom};
-ghost use Rattle.mangle.specs.WordLaws.{limit};
-ghost use Rattle.mangle.specs.Words.{onPin, stepPin, placed, isHighPin, onX, onControl, onControls, wordNumber, wholeWord, mangleWord};
+ghost use Rattle.mangle.specs.Laws.Least.{allFrom};
+ghost use Rattle.mangle.specs.Laws.Words.{limit};
+ghost use Rattle.mangle.specs.Code.{onPin, stepPin, placed, isHighPin, onX, onControl, onControls, wordNumber, wholeWord, mangleWord};
 
 // Pin of v at level b.
 fn put_at(v: u32, pin: u8, b: u32) -> u32

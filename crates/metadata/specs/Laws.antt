@@ -9,8 +9,8 @@ use lib.Dec.{ltb, eqb}
 use lib.ListN.{length, take}
 use borrow.Author.Tests.{lt-ltb, le-ltb, eq-eqb, ne-eqb}
 use Rattle.le.specs.Le.{u8At, u32At, startsWith}
-use Rattle.prog.specs.Honest.{Honest, honesty}
-use Rattle.prog.specs.Record.{front-byte, front-short, front-starts}
+use Rattle.prog.specs.Laws.Honest.{Honest, honesty}
+use Rattle.prog.specs.Laws.Record.{front-byte, front-short, front-starts}
 use Rattle.metadata.specs.declared.MetadataAnswer.{MetadataAnswer}
 use Rattle.metadata.specs.Metadata.{magic, refused, metadataOf, metadataP}
 

@@ -16,7 +16,7 @@ use Rattle.info.specs.declared.SdrrAddress.{SdrrAddress}
 use Rattle.info.specs.declared.Valued.{Valued}
 use Rattle.info.specs.declared.GoverningSet.{GoverningSet}
 use Rattle.info.specs.Lent.{governingSet0, mangledBy, demangleByte}
-use Rattle.info.specs.Steps.{in-two}
+use Rattle.info.specs.Laws.Steps.{in-two}
 use Rattle.info.specs.Reads.{range, byte, Reply, romRead, bufferLeft}
 use Rattle.board.specs.declared.Board.{Board}
 use Rattle.rom_reads.specs.declared.Counted.{Counted}

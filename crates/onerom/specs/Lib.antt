@@ -1,4 +1,4 @@
 pub mod Board
 pub mod Opening
 pub mod Reads
-pub mod Promises
+pub mod Laws

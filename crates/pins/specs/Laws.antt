@@ -6,8 +6,8 @@ use mathlib.Core.Bool.{true, false}
 use mathlib.Core.List.{List}
 use lib.ListN.{length, take}
 use borrow.Author.Tests.{lt-ltb, le-ltb}
-use Rattle.prog.specs.Honest.{Honest, honesty}
-use Rattle.prog.specs.Record.{front-byte, front-short}
+use Rattle.prog.specs.Laws.Honest.{Honest, honesty}
+use Rattle.prog.specs.Laws.Record.{front-byte, front-short}
 use Rattle.pins.specs.declared.PinsItem.{PinsItem}
 use Rattle.pins.specs.Pins.{fieldsOf, refused, unknownPort, pinsOf, pinsP}
 

@@ -1,11 +1,3 @@
 pub mod Prog
-pub mod Read
-pub mod Run
-pub mod Reach
-pub mod Agree
-pub mod Cut
-pub mod Parts
-pub mod Honest
-pub mod Counts
-pub mod Cases
-pub mod Record
+pub mod Laws
+pub mod Examples

@@ -5,7 +5,7 @@ use mathlib.Core.Path.{_≡_}
 use mathlib.Core.Bool.{true, false}
 use mathlib.Core.List.{List}
 use Rattle.prog.specs.Prog.{run}
-use Rattle.prog.specs.Run.{run-done, run-map}
+use Rattle.prog.specs.Laws.Run.{run-done, run-map}
 use Rattle.header.specs.declared.SdrrInfoHeader.{SdrrInfoHeader}
 use Rattle.version.specs.Version.{from050}
 use Rattle.metadata.specs.Metadata.{metadataP}

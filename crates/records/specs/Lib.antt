@@ -1,3 +1,3 @@
 pub mod Looked
-pub mod Records
 pub mod Laws
+pub mod Code

@@ -11,7 +11,7 @@ ghost use Rattle.text.specs.Text.{textP};
 ghost use Rattle.extra_info.specs.ExtraInfo.{extraInfoP};
 ghost use Rattle.pins.specs.Pins.{pinsP};
 ghost use Rattle.records.specs.Looked.{lookP};
-ghost use Rattle.records.specs.Records.{sourceOf, recordsOf};
+ghost use Rattle.records.specs.Code.{sourceOf, recordsOf};
 
 // The image, and the base in force: what the readers below are given. Each leaves the work to a function on the slice and the number.
 struct Window<'a> {

@@ -1,4 +1,3 @@
 pub mod Calls
-pub mod Found
-pub mod Steps
-pub mod Promises
+pub mod Code
+pub mod Laws

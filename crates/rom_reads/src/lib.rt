@@ -13,7 +13,7 @@ ghost use lib.ListN.{length};
 ghost use Rattle.info.specs.Lent.{setNumber, sizeCall};
 ghost use Rattle.info.specs.Reads.{range, byte, romRead, bufferLeft};
 ghost use Rattle.rom_reads.specs.Calls.{lentBy, countedOf, byteOf};
-ghost use Rattle.rom_reads.specs.Found.{setData, notFound, foundOf, noByte, storedByte, physicalBy, shownFrom};
+ghost use Rattle.rom_reads.specs.Code.{setData, notFound, foundOf, noByte, storedByte, physicalBy, shownFrom};
 
 // 0 or the refusal's number, and the served count afterwards.
 pub struct Counted {

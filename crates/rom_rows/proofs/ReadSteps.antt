@@ -18,12 +18,12 @@ use Rattle.walk.specs.declared.Walked.{Walked}
 use Rattle.walk.specs.Walk.{RomSet, Part, stop, found, romsOf, walkP}
 use Rattle.walk.specs.Names.{namesP, walkNamesP}
 use Rattle.walk.specs.Rows.{setRows, romRows, overwritten}
-use Rattle.walk.specs.RowLaws.{set-rows-length}
-use Rattle.walk.specs.Passes.{setsAt}
-use Rattle.walk.specs.PassLaws.{sets-length}
-use Rattle.walk.specs.Judged.{judgedOf, walk-found}
+use Rattle.walk.specs.Laws.Rows.{set-rows-length}
+use Rattle.walk.specs.Code.Passes.{setsAt}
+use Rattle.walk.specs.Laws.Passes.{sets-length}
+use Rattle.walk.specs.Code.Judged.{judgedOf, walk-found}
 use Rattle.rom_rows.specs.Reply.{refusedWith, replyOf, setRowsLeft, romRowsLeft}
-use Rattle.rom_rows.specs.RowWords.{namedRows, rows-named, named-length, rowsFrom, rows-from}
+use Rattle.rom_rows.specs.Code.{namedRows, rows-named, named-length, rowsFrom, rows-from}
 
 -- rows put in at the front: the words, and then what stood there
 at-front : (l ws : List ℕ) → length ws ≤ length l → sets l 0 ws ≡ overwritten ws l

@@ -14,16 +14,16 @@ use Rattle.base.specs.Choice.{pick}
 use Rattle.window.specs.Window.{onFrom}
 use Rattle.le.specs.Le.{u8At, u32At}
 use Rattle.prog.specs.Prog.{run}
-use Rattle.prog.specs.Run.{run-done}
+use Rattle.prog.specs.Laws.Run.{run-done}
 use Rattle.rows.specs.LentRows.{setWidth, romWidth}
 use Rattle.text.specs.declared.Text.{Text}
 use Rattle.text.specs.Text.{refused, textP}
 use Rattle.walk.specs.Walk.{noName, nameAt, Rom, RomSet, romOf, romsOf}
 use Rattle.walk.specs.Names.{nameP}
 use Rattle.set_header.specs.SetHeader.{infoPointer, strideOf}
-use Rattle.walk.specs.Passes.{romAt, romsAt, setOf, setAt, after, setsAt}
-use Rattle.rom_rows.specs.RowWords.{setWords, romWords, set-words, rom-words, namedRow, namedRows, named-append, named-row-length, named-length, rowsFrom}
-use Rattle.walk.specs.PassLaws.{roms-length}
+use Rattle.walk.specs.Code.Passes.{romAt, romsAt, setOf, setAt, after, setsAt}
+use Rattle.rom_rows.specs.Code.{setWords, romWords, set-words, rom-words, namedRow, namedRows, named-append, named-row-length, named-length, rowsFrom}
+use Rattle.walk.specs.Laws.Passes.{roms-length}
 
 -- ---- words put in one after the other
 

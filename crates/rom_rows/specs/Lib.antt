@@ -1,2 +1,2 @@
-pub mod RowWords
 pub mod Reply
+pub mod Code

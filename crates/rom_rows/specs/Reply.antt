@@ -7,7 +7,7 @@ use Rattle.text.specs.declared.Text.{Text}
 use Rattle.walk.specs.declared.Walked.{Walked}
 use Rattle.walk.specs.Walk.{RomSet, Part, stop, found, romsOf}
 use Rattle.walk.specs.Rows.{setRows, romRows, shortSets, shortRoms, overwritten}
-pub use Rattle.walk.specs.Judged.{refusedWith}
+pub use Rattle.walk.specs.Code.Judged.{refusedWith}
 
 -- "Walk": only a walk otherwise accepted gives 44, then 45. The lengths of the lent rows are in words.
 unfoldable pub replyOf : Part (List RomSet) → ℕ → ℕ → Walked

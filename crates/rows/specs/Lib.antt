@@ -1,2 +1,2 @@
 pub mod LentRows
-pub mod Widths
+pub mod Laws

@@ -17,8 +17,8 @@ use Rattle.mangle.specs.declared.Mangled.{Mangled}
 use Rattle.mangle.specs.declared.Demangled.{Demangled}
 use Rattle.mangle.specs.Mangle.{mangleCore}
 use Rattle.mangle.specs.Demangle.{demangle}
-use Rattle.mangle.specs.Cases.{board2364, given}
-use Rattle.mangle.specs.Cases as mangling
+use Rattle.mangle.specs.Examples.{board2364, given}
+use Rattle.mangle.specs.Examples as mangling
 use Rattle.starred.specs.Inputs.{ramBase, recordR1, recordR2, recordR3, recordR4, flashBase, imageT1, imageT2, imageT3, pinsD1, pinsD2}
 
 pub data Case : Type 0 where

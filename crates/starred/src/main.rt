@@ -2,7 +2,7 @@
 ghost use mathlib.Core.Path.{_≡_};
 ghost use mathlib.Core.List.{_∷_};
 ghost use Rattle.starred.specs.Table.{ofRecord, ofString, textWords, byteWords, addressWords, expected};
-ghost use Rattle.mangle.specs.Cases.{board, given};
+ghost use Rattle.mangle.specs.Examples.{board, given};
 ghost use Rattle.types.specs.declared.Level.{Level};
 ghost use Rattle.starred.specs.Table.Case.{R1, R2, R3, R4, T1, T2, T3, D1, D2, M1, M2, M3};
 use libc::STDOUT_FILENO;

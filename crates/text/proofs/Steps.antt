@@ -10,14 +10,14 @@ use lib.Dec.{leb}
 use lib.ListN.{length, getD, take, drop, length-drop, drop-of-length-le}
 use lib.Seq.{drop-cons, length-take-le}
 use borrow.Author.Tests.{leb-true, leb-false, eq-eqb, ne-eqb}
-use Rattle.base.specs.Cases.{cases}
+use Rattle.base.specs.Laws.{cases}
 use Rattle.window.specs.Window.{canRead}
 use Rattle.window.specs.Laws.{inside-true, true-inside, past-false, part}
 use Rattle.prog.specs.Prog.{run}
 use Rattle.utf8.specs.Utf8.{isUtf8}
 use Rattle.text.specs.Text.{accepted, refused, partOf, hasNul, beforeNul, judged, textP}
-use Rattle.text.specs.Nul.{before-shorter, before-all}
-use Rattle.text.specs.Laws.{restP, chunkAfter, text-start, chunks-none, chunks-ended, chunks-found, chunks-next, part-inside}
+use Rattle.text.specs.Laws.Nul.{before-shorter, before-all}
+use Rattle.text.specs.Laws.Chunks.{restP, chunkAfter, text-start, chunks-none, chunks-ended, chunks-found, chunks-next, part-inside}
 use Rattle.text.specs.declared.Text.{Text as Str}
 
 -- the search for a NUL: where it ends, where it finds one, and where it goes on

@@ -1,4 +1,3 @@
 pub mod Text
-pub mod Nul
 pub mod Laws
-pub mod Cases
+pub mod Examples

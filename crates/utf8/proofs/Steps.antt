@@ -10,7 +10,7 @@ use borrow.Author.Tests.{not-true, not-false}
 use lib.ListN.{length, getD, drop, drop-of-length-le}
 use lib.Seq.{drop-cons}
 use Rattle.utf8.specs.Utf8.{within, classOf, begins, lowAfter, highAfter, lacking}
-use Rattle.utf8.specs.Laws.{within-in}
+use Rattle.utf8.specs.Laws.Chars.{within-in}
 
 -- n continuation bytes are lacking after p, and u is the answer for s from i on; k is the class that the code looked up,
 -- and t what its test said.

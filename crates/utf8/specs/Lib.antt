@@ -1,5 +1,4 @@
 pub mod Utf8
 pub mod Rfc3629
-pub mod Sound
-pub mod Laws
 pub mod Examples
+pub mod Laws

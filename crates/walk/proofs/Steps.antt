@@ -16,9 +16,9 @@ use Rattle.header.specs.declared.SdrrInfoFields.{SdrrInfoFields}
 use Rattle.version.specs.Version.{from060}
 use Rattle.header.specs.Header.{hasFilenames}
 use Rattle.walk.specs.declared.Walked.{Walked}
-use Rattle.walk.specs.PassLaws.{romsIn, total-none}
-use Rattle.walk.specs.Judged.{walked, judgedOf, walked-good, walked-bad, walk-judged}
-use Rattle.walk.specs.Passes.{orNext, infoNumber, infoPointer, romNumber, romsNumber, tableNumber, pointedNumber, configOf, overridesOf, headerNumber, partNumber, setNumber, strideOf, after, setsNumber, walkNumber}
+use Rattle.walk.specs.Laws.Passes.{romsIn, total-none}
+use Rattle.walk.specs.Code.Judged.{walked, judgedOf, walked-good, walked-bad, walk-judged}
+use Rattle.walk.specs.Code.Passes.{orNext, infoNumber, infoPointer, romNumber, romsNumber, tableNumber, pointedNumber, configOf, overridesOf, headerNumber, partNumber, setNumber, strideOf, after, setsNumber, walkNumber}
 
 -- ---- one part after the other
 

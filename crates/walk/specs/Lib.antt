@@ -1,11 +1,5 @@
 pub mod Walk
 pub mod Rows
 pub mod Names
+pub mod Code
 pub mod Laws
-pub mod RowLaws
-pub mod Found
-pub mod Passes
-pub mod PassLaws
-pub mod Says
-pub mod Judged
-pub mod Numbers

@@ -3,8 +3,8 @@ ghost use mathlib.Core.Path.{_≡_};
 ghost use lib.ListN.{length};
 ghost use Rattle.prog.specs.Prog.{run};
 ghost use Rattle.walk.specs.Walk.{infoSize, romsOf, walkP};
-ghost use Rattle.walk.specs.Passes.{infoNumber, romNumber, romsNumber, tableNumber, pointedNumber, headerNumber, partNumber, setNumber, setsNumber, setsAt};
-ghost use Rattle.walk.specs.Judged.{walked, judgedOf};
+ghost use Rattle.walk.specs.Code.Passes.{infoNumber, romNumber, romsNumber, tableNumber, pointedNumber, headerNumber, partNumber, setNumber, setsNumber, setsAt};
+ghost use Rattle.walk.specs.Code.Judged.{walked, judgedOf};
 use header::SdrrInfoFields;
 
 // 0, or the number of the walk's refusal; and where it is 0 how many ROMs the sets have.

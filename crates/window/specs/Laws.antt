@@ -12,7 +12,7 @@ use lib.Dec.{leb, ltb}
 use lib.ListN.{length, getD, take, drop, length-take, length-drop, drop-of-length-le}
 use lib.Seq.{take-all, getD-take, getD-drop}
 use borrow.Author.Tests.{le-leb, lt-leb, leb-true, leb-false, le-ltb, lt-ltb, ltb-true, ltb-false}
-use Rattle.base.specs.Cases.{cases, clash, both-false}
+use Rattle.base.specs.Laws.{cases, clash, both-false}
 use Rattle.window.specs.Window.{canRead, onFrom, pastWindow, beyondWindow, pointerNumber}
 
 -- ---- when a read succeeds (01, "Window")

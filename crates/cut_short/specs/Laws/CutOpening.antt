@@ -13,10 +13,10 @@ use borrow.Author.Tests.{le-ltb, eq-eqb}
 use Rattle.base.specs.Choice.{pick}
 use Rattle.window.specs.Window.{baseAfter}
 use Rattle.prog.specs.Prog.{Prog, done, _>>=_, mapP, run}
-use Rattle.prog.specs.Run.{run-done}
-use Rattle.prog.specs.Cut.{Cut, OrEnded}
-use Rattle.prog.specs.Parts.{cut-done, cut-bind, cut-map}
-use Rattle.prog.specs.Honest.{cut-honest}
+use Rattle.prog.specs.Laws.Run.{run-done}
+use Rattle.prog.specs.Laws.Cut.{Cut, OrEnded}
+use Rattle.prog.specs.Laws.Parts.{cut-done, cut-bind, cut-map}
+use Rattle.prog.specs.Laws.Honest.{cut-honest}
 use Rattle.text.specs.declared.Text.{Text}
 use Rattle.header.specs.declared.SdrrInfoHeader.{SdrrInfoHeader}
 use Rattle.header.specs.declared.HeaderAnswer.{HeaderAnswer}
@@ -24,7 +24,7 @@ use Rattle.header.specs.Laws.{header-honest}
 use Rattle.metadata.specs.declared.MetadataItem.{MetadataItem}
 use Rattle.walk.specs.Walk.{RomSet, Part, stop, found, romsOf}
 use Rattle.walk.specs.Rows.{setRows, romFront, shortSets, shortRoms}
-use Rattle.walk.specs.Laws.{Ended}
+use Rattle.walk.specs.Laws.Ended.{Ended}
 use Rattle.fw_parser.specs.declared.Settings.{Settings}
 use Rattle.fw_parser.specs.declared.SdrrInfo.{SdrrInfo}
 use Rattle.fw_parser.specs.Opening.{Looked, notLookedFor, looked, Sets, Items, Row, itemsOf, rowP, metadataItem, setsItem, reportOf, setsOf, Opened, refused, opened, verdict, afterHeader, openP}

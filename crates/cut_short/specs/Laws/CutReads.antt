@@ -11,15 +11,15 @@ use lib.ListN.{length, take, drop, length-append, length-drop, length-map}
 use Rattle.base.specs.Choice.{pick}
 use Rattle.window.specs.Window.{baseAfter}
 use Rattle.prog.specs.Prog.{run}
-use Rattle.prog.specs.Honest.{honest-kept}
+use Rattle.prog.specs.Laws.Honest.{honest-kept}
 use Rattle.text.specs.declared.Text.{Text}
 use Rattle.walk.specs.Walk.{Rom, RomSet, romsOf}
 use Rattle.rows.specs.LentRows.{romWidth, typeWord}
 use Rattle.walk.specs.Rows.{setRows, romFront, romRows, overwritten}
-use Rattle.walk.specs.RowLaws.{rom-rows-length, type-words}
+use Rattle.walk.specs.Laws.Rows.{rom-rows-length, type-words}
 use Rattle.info.specs.Lent.{Lent}
 use Rattle.info.specs.Reads.{Bytes, RomRead, lengthOf, readP, Reply, replyOf, romRead}
-use Rattle.info.specs.Like.{Like, read-like, read-honest, read-unserved}
+use Rattle.info.specs.Laws.Like.{Like, read-like, read-honest, read-unserved}
 use Rattle.fw_parser.specs.declared.Settings.{Settings}
 use Rattle.fw_parser.specs.declared.SdrrInfo.{SdrrInfo}
 use Rattle.cut_short.specs.Shown.{Kept}

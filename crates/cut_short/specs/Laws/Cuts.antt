@@ -11,14 +11,14 @@ use lib.ListN.{length, take}
 use borrow.Author.Tests.{le-ltb, eq-eqb}
 use Rattle.base.specs.Choice.{pick}
 use Rattle.prog.specs.Prog.{Prog, done, _>>=_, also, mapP, aside, run}
-use Rattle.prog.specs.Run.{run-done, run-also}
-use Rattle.prog.specs.Cut.{Cut, OrEnded}
-use Rattle.prog.specs.Parts.{cut-done, cut-aside, cut-mono, cut-bind, cut-map, cut-also}
-use Rattle.prog.specs.Honest.{Honest, cut-honest, honest-kept, honest-done, honest-pick, honest-map, cut-after, cut-beside}
+use Rattle.prog.specs.Laws.Run.{run-done, run-also}
+use Rattle.prog.specs.Laws.Cut.{Cut, OrEnded}
+use Rattle.prog.specs.Laws.Parts.{cut-done, cut-aside, cut-mono, cut-bind, cut-map, cut-also}
+use Rattle.prog.specs.Laws.Honest.{Honest, cut-honest, honest-kept, honest-done, honest-pick, honest-map, cut-after, cut-beside}
 use Rattle.text.specs.declared.Text.{Text}
 use Rattle.text.specs.Text as T
 use Rattle.text.specs.Text.{textP}
-use Rattle.text.specs.Laws.{text-honest}
+use Rattle.text.specs.Laws.Chunks.{text-honest}
 use Rattle.header.specs.declared.SdrrInfoHeader.{SdrrInfoHeader}
 use Rattle.header.specs.declared.HeaderAnswer.{HeaderAnswer}
 use Rattle.version.specs.Version.{from050}
@@ -34,7 +34,7 @@ use Rattle.pins.specs.Pins.{pinsP}
 use Rattle.pins.specs.Laws.{pins-honest}
 use Rattle.walk.specs.Walk.{NameAt, noName, nameAt, Rom, RomSet, Part, stop, found, romsOf, walkP}
 use Rattle.walk.specs.Names.{nameP, namesP, walkNamesP}
-use Rattle.walk.specs.Laws.{Ended, walk-honest}
+use Rattle.walk.specs.Laws.Ended.{Ended, walk-honest}
 use Rattle.fw_parser.specs.Opening.{Looked, notLookedFor, looked, lookP, metadataEnded, setCount, setsPointer, Sets, counted, setsP, Row, rowP}
 
 -- ---- what is ended

@@ -12,13 +12,13 @@ use Rattle.types.specs.declared.McuLine.{McuLine}
 use Rattle.window.specs.Window.{baseAfter, beyondWindow}
 use Rattle.window.specs.Laws.{window-cut}
 use Rattle.prog.specs.Prog.{run, reach}
-use Rattle.prog.specs.Cut.{past, below, shown}
+use Rattle.prog.specs.Laws.Cut.{past, below, shown}
 use Rattle.text.specs.declared.Text.{Text}
 use Rattle.walk.specs.Walk.{RomSet, romsOf}
 use Rattle.walk.specs.Rows.{setRows, romRows, overwritten}
 use Rattle.info.specs.Lent.{Lent}
 use Rattle.info.specs.Reads.{Bytes, RomRead, lengthOf, readP, Reply, replyOf, romRead}
-use Rattle.info.specs.Like.{read-unserved}
+use Rattle.info.specs.Laws.Like.{read-unserved}
 use Rattle.fw_parser.specs.declared.Settings.{Settings}
 use Rattle.fw_parser.specs.declared.SdrrInfo.{SdrrInfo}
 use Rattle.fw_parser.specs.Opening.{Opened, refused, opened, openP, opening, setRowsLeft, romRowsLeft}

@@ -1,5 +1,5 @@
 use borrow.Author.Needs.{needs}
-use Rattle.prog.specs.Record.{pointer-refused, pointer-read}
+use Rattle.prog.specs.Laws.Record.{pointer-refused, pointer-read}
 use Rattle.extra_info.specs.ExtraInfo.{refused, extraInfoOf, extraInfoP}
 use Rattle.extra_info.specs.Laws.{extra-info-front}
 use Rattle.extra_info.proofs.read_extra_info.Statement.{statement}

@@ -1,6 +1,6 @@
 use mathlib.Core.Path.{_∙_, sym}
 use borrow.Author.Needs.{needs}
-use Rattle.fw_parser.specs.OpenSteps.{refused-by, opened-by, left-beyond, left-header, left-short, left-open}
+use Rattle.fw_parser.specs.Laws.Steps.{refused-by, opened-by, left-beyond, left-header, left-short, left-open}
 use Rattle.fw_parser.proofs.parse_flash.Statement.{statement}
 use Rattle.fw_parser.proofs.parse_flash.Tie as tie
 

@@ -1,5 +1,5 @@
 use borrow.Author.Needs.{needs}
-use Rattle.fw_parser.specs.Parts.{reportWith}
+use Rattle.fw_parser.specs.Code.{reportWith}
 use Rattle.fw_parser.proofs.report.Statement.{statement}
 use Rattle.fw_parser.proofs.report.Tie as tie
 

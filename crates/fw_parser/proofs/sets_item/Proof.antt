@@ -1,6 +1,6 @@
 use mathlib.Core.Path.{_≡_, refl}
 use borrow.Author.Tests.{eq-eqb, ne-eqb}
-use Rattle.fw_parser.specs.Parts.{itemOf}
+use Rattle.fw_parser.specs.Code.{itemOf}
 use Rattle.fw_parser.proofs.sets_item.Statement.{statement}
 use Rattle.fw_parser.proofs.sets_item.Tie as tie
 

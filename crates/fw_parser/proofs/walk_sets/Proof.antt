@@ -1,5 +1,5 @@
 use borrow.Author.Needs.{needs}
-use Rattle.fw_parser.specs.OpenSteps.{by-ended, by-made}
+use Rattle.fw_parser.specs.Laws.Steps.{by-ended, by-made}
 use Rattle.fw_parser.proofs.walk_sets.Statement.{statement}
 use Rattle.fw_parser.proofs.walk_sets.Tie as tie
 

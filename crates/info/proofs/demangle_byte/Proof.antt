@@ -1,7 +1,7 @@
 use native.Mathlib.Omega.{arith}
 use mathlib.Core.Path.{_≡_, sym, _∙_}
 use borrow.Author.Needs.{needs}
-use Rattle.info.specs.Steps.{no-pins-byte, by-data-pins}
+use Rattle.info.specs.Laws.Steps.{no-pins-byte, by-data-pins}
 use Rattle.info.proofs.demangle_byte.Statement.{statement}
 use Rattle.info.proofs.demangle_byte.Tie as tie
 

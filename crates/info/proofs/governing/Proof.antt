@@ -1,7 +1,7 @@
 use mathlib.Core.Path.{_≡_, refl, sym, _∙_}
 use borrow.Author.Tests.{not-true, not-false}
 use borrow.Author.Needs.{needs}
-use Rattle.info.specs.Steps.{no-set-row, no-rom-row, by-set}
+use Rattle.info.specs.Laws.Steps.{no-set-row, no-rom-row, by-set}
 use Rattle.info.proofs.governing.Statement.{statement}
 use Rattle.info.proofs.governing.Tie as tie
 

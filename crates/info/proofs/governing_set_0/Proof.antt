@@ -1,7 +1,7 @@
 use native.Mathlib.Omega.{arith}
 use mathlib.Core.Path.{sym, _∙_}
 use borrow.Author.Needs.{needs}
-use Rattle.info.specs.Steps.{no-pins, no-sets, by-set-0}
+use Rattle.info.specs.Laws.Steps.{no-pins, no-sets, by-set-0}
 use Rattle.info.proofs.governing_set_0.Statement.{statement}
 use Rattle.info.proofs.governing_set_0.Tie as tie
 

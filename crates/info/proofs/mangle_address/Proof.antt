@@ -1,6 +1,6 @@
 use mathlib.Core.Path.{refl, _∙_}
 use borrow.Author.Needs.{needs}
-use Rattle.info.specs.Steps.{in-two}
+use Rattle.info.specs.Laws.Steps.{in-two}
 use Rattle.info.proofs.mangle_address.Statement.{statement}
 use Rattle.info.proofs.mangle_address.Tie as tie
 

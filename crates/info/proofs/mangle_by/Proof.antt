@@ -2,7 +2,7 @@ use native.Mathlib.Omega.{arith}
 use mathlib.Core.Path.{_≡_, sym, _∙_}
 use borrow.Author.Needs.{needs}
 use Rattle.mangle.specs.Mangle.{mangleCore}
-use Rattle.info.specs.Steps.{not-governed, governed}
+use Rattle.info.specs.Laws.Steps.{not-governed, governed}
 use Rattle.info.proofs.mangle_by.Statement.{statement}
 use Rattle.info.proofs.mangle_by.Tie as tie
 

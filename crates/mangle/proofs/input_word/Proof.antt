@@ -1,6 +1,6 @@
 use borrow.Author.Needs.{needs}
 use Rattle.mangle.specs.Mangle.{inputWord}
-use Rattle.mangle.specs.RaiseLaws.{masks-raise}
+use Rattle.mangle.specs.Laws.Raise.{masks-raise}
 use Rattle.mangle.specs.Rules.{drives}
 use Rattle.mangle.proofs.input_word.Statement.{statement}
 use Rattle.mangle.proofs.input_word.Tie as tie

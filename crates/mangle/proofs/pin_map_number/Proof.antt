@@ -1,7 +1,7 @@
 use borrow.Author.Needs.{needs}
 use Rattle.mangle.specs.BaseZero.{baseZero, loweredBy}
-use Rattle.mangle.specs.LeastLaws.{least-from}
-use Rattle.mangle.specs.WordLaws.{word-number}
+use Rattle.mangle.specs.Laws.Least.{least-from}
+use Rattle.mangle.specs.Laws.Words.{word-number}
 use Rattle.mangle.proofs.pin_map_number.Statement.{statement}
 use Rattle.mangle.proofs.pin_map_number.Tie as tie
 

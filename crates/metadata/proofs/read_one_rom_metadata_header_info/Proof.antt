@@ -1,5 +1,5 @@
 use borrow.Author.Needs.{needs}
-use Rattle.prog.specs.Record.{pointer-refused, pointer-read}
+use Rattle.prog.specs.Laws.Record.{pointer-refused, pointer-read}
 use Rattle.metadata.specs.Metadata.{refused, metadataOf, metadataP}
 use Rattle.metadata.specs.Laws.{metadata-front}
 use Rattle.metadata.proofs.read_one_rom_metadata_header_info.Statement.{statement}

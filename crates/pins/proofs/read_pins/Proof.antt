@@ -1,5 +1,5 @@
 use borrow.Author.Needs.{needs}
-use Rattle.prog.specs.Record.{pointer-refused, pointer-read}
+use Rattle.prog.specs.Laws.Record.{pointer-refused, pointer-read}
 use Rattle.pins.specs.Pins.{refused, pinsOf, pinsP}
 use Rattle.pins.specs.Laws.{pins-front}
 use Rattle.pins.proofs.read_pins.Statement.{statement}

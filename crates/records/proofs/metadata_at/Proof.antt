@@ -48,7 +48,7 @@ use Rattle.header.specs.declared.SdrrInfoHeader.{SdrrInfoHeader}
 use Rattle.header.proofs.SdrrInfoHeader as Y
 use Rattle.header.proofs.SdrrInfoHeader.Laws as Y′
 use Rattle.records.specs.Looked.{lookP}
-use Rattle.records.specs.Records.{sourceOf}
+use Rattle.records.specs.Code.{sourceOf}
 use Rattle.records.specs.declared.SetsSource.{SetsSource}
 use Rattle.records.proofs.SetsSource as S
 use Rattle.records.proofs.SetsSource.Laws as S′

@@ -62,7 +62,7 @@ use Rattle.pins.specs.declared.PinsItem.{PinsItem}
 use Rattle.pins.proofs.PinsItem as P
 use Rattle.pins.proofs.PinsItem.Laws as P′
 use Rattle.records.specs.Looked.{lookP}
-use Rattle.records.specs.Records.{sourceOf, recordsOf}
+use Rattle.records.specs.Code.{sourceOf, recordsOf}
 use Rattle.records.specs.declared.Window.{Window}
 use Rattle.records.specs.declared.SetsSource.{SetsSource}
 use Rattle.records.specs.declared.Records.{Records}

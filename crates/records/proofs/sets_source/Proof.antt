@@ -3,7 +3,7 @@ use borrow.Author.Needs.{needs}
 use borrow.Author.Tests.{not-true, not-false}
 use Rattle.metadata.specs.declared.MetadataAnswer.{MetadataAnswer}
 use Rattle.records.specs.Looked.{Looked, looked}
-use Rattle.records.specs.Records.{sourceOf}
+use Rattle.records.specs.Code.{sourceOf}
 use Rattle.records.specs.Laws.{not-looked-for, looked-for}
 use Rattle.records.proofs.sets_source.Statement.{statement}
 use Rattle.records.proofs.sets_source.Tie as tie

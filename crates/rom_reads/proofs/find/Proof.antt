@@ -4,7 +4,7 @@ use mathlib.Core.Path.{_≡_, sym, _∙_}
 use borrow.Author.Tests.{not-true, not-false}
 use borrow.Author.Needs.{needs}
 use Rattle.window.specs.Laws.{true-inside}
-use Rattle.rom_reads.specs.Steps.{found-no-set, found-81, found-ended, found-there}
+use Rattle.rom_reads.specs.Laws.Steps.{found-no-set, found-81, found-ended, found-there}
 use Rattle.rom_reads.proofs.find.Statement.{statement}
 use Rattle.rom_reads.proofs.find.Tie as tie
 

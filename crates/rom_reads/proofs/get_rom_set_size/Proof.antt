@@ -1,7 +1,7 @@
 use native.Mathlib.Omega.{arith}
 use mathlib.Core.Path.{_≡_, sym, _∙_}
 use borrow.Author.Needs.{needs}
-use Rattle.rom_reads.specs.Steps.{size-refused, size-given}
+use Rattle.rom_reads.specs.Laws.Steps.{size-refused, size-given}
 use Rattle.rom_reads.proofs.get_rom_set_size.Statement.{statement}
 use Rattle.rom_reads.proofs.get_rom_set_size.Tie as tie
 

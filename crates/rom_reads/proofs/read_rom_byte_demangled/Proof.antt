@@ -1,6 +1,6 @@
 use borrow.Author.Needs.{needs}
 use Rattle.rom_reads.specs.Calls.{lentBy}
-use Rattle.rom_reads.specs.Steps.{byte-demangled}
+use Rattle.rom_reads.specs.Laws.Steps.{byte-demangled}
 use Rattle.rom_reads.proofs.read_rom_byte_demangled.Statement.{statement}
 use Rattle.rom_reads.proofs.read_rom_byte_demangled.Tie as tie
 

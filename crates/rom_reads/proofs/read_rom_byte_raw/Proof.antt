@@ -3,7 +3,7 @@ use mathlib.Core.Bool.{false}
 use borrow.Author.Needs.{needs}
 use Rattle.info.specs.Reads.{byte}
 use Rattle.rom_reads.specs.Calls.{lentBy, byteOf}
-use Rattle.rom_reads.specs.Steps.{read-beyond, byte-raw}
+use Rattle.rom_reads.specs.Laws.Steps.{read-beyond, byte-raw}
 use Rattle.rom_reads.proofs.read_rom_byte_raw.Statement.{statement}
 use Rattle.rom_reads.proofs.read_rom_byte_raw.Tie as tie
 

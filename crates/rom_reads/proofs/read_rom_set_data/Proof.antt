@@ -7,7 +7,7 @@ use borrow.Author.Needs.{needs}
 use Rattle.window.specs.Laws.{part}
 use Rattle.info.specs.Reads.{range, Reply, bufferLeft}
 use Rattle.rom_reads.specs.Calls.{lentBy, countedOf}
-use Rattle.rom_reads.specs.Steps.{read-beyond, found-inside, left-as-was, data-refused, data-82, data-read}
+use Rattle.rom_reads.specs.Laws.Steps.{read-beyond, found-inside, left-as-was, data-refused, data-82, data-read}
 use Rattle.rom_reads.proofs.read_rom_set_data.Statement.{statement}
 use Rattle.rom_reads.proofs.read_rom_set_data.Tie as tie
 

@@ -2,7 +2,7 @@ use Prim.Native.Nat.{_+_, _<_, _≤_}
 use native.Mathlib.Omega.{arith}
 use mathlib.Core.Path.{_≡_, sym, _∙_}
 use borrow.Author.Needs.{needs}
-use Rattle.rom_reads.specs.Steps.{found-inside, stored-unmangled, stored-refused, stored-82, stored-read}
+use Rattle.rom_reads.specs.Laws.Steps.{found-inside, stored-unmangled, stored-refused, stored-82, stored-read}
 use Rattle.rom_reads.proofs.stored_byte.Statement.{statement}
 use Rattle.rom_reads.proofs.stored_byte.Tie as tie
 

@@ -1,5 +1,5 @@
 use borrow.Author.Needs.{needs}
-use Rattle.rom_rows.specs.RowWords.{romWords}
+use Rattle.rom_rows.specs.Code.{romWords}
 use Rattle.rom_rows.proofs.rom_row.Statement.{statement}
 use Rattle.rom_rows.proofs.rom_row.Tie as tie
 

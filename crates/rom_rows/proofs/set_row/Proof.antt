@@ -1,5 +1,5 @@
 use borrow.Author.Needs.{needs}
-use Rattle.rom_rows.specs.RowWords.{setWords}
+use Rattle.rom_rows.specs.Code.{setWords}
 use Rattle.rom_rows.proofs.set_row.Statement.{statement}
 use Rattle.rom_rows.proofs.set_row.Tie as tie
 

@@ -5,8 +5,8 @@ use lib.Seq.{sets}
 use lib.ListN.{length}
 use borrow.Author.Needs.{needs}
 use Rattle.rows.specs.LentRows.{romWidth}
-use Rattle.rom_rows.specs.RowWords.{namedRows}
-use Rattle.walk.specs.Passes.{romsAt}
+use Rattle.rom_rows.specs.Code.{namedRows}
+use Rattle.walk.specs.Code.Passes.{romsAt}
 use Rattle.rom_rows.proofs.RowSteps.{roms-written, roms-write}
 use Rattle.rom_rows.proofs.write_roms.Statement.{statement}
 use Rattle.rom_rows.proofs.write_roms.Tie as tie

@@ -5,7 +5,7 @@ use lib.ListN.{length, length-drop}
 use borrow.Author.Tests.{not-true, not-false}
 use borrow.Author.Needs.{needs}
 use Rattle.rows.specs.LentRows.{romWidth, firstRom, romCount}
-use Rattle.same_set.specs.Steps.{bad-row, bad-empty, bad-short, bad-types}
+use Rattle.same_set.specs.Laws.{bad-row, bad-empty, bad-short, bad-types}
 use Rattle.same_set.proofs.is_bad_set.Statement.{statement}
 use Rattle.same_set.proofs.is_bad_set.Tie as tie
 

@@ -2,7 +2,7 @@ use native.Mathlib.Omega.{arith}
 use mathlib.Core.Path.{_≡_, sym, _∙_}
 use borrow.Author.Needs.{needs}
 use Rattle.rows.specs.LentRows.{sizeOf, romCount, serveOf}
-use Rattle.same_set.specs.Steps.{enough-rows, differ-size, differ-count, differ-serve, by-types}
+use Rattle.same_set.specs.Laws.{enough-rows, differ-size, differ-count, differ-serve, by-types}
 use Rattle.same_set.proofs.is_same.Statement.{statement}
 use Rattle.same_set.proofs.is_same.Tie as tie
 

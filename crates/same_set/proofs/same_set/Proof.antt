@@ -1,6 +1,6 @@
 use mathlib.Core.Path.{sym, _∙_}
 use borrow.Author.Needs.{needs}
-use Rattle.same_set.specs.Steps.{no-first, no-second, bad-first, bad-second, told-same, told-other}
+use Rattle.same_set.specs.Laws.{no-first, no-second, bad-first, bad-second, told-same, told-other}
 use Rattle.same_set.proofs.same_set.Statement.{statement}
 use Rattle.same_set.proofs.same_set.Tie as tie
 

@@ -1,7 +1,7 @@
 use mathlib.Core.Path.{_∙_, ap}
 use borrow.Author.Needs.{needs}
 use Rattle.text.specs.Text.{partOf}
-use Rattle.text.specs.Laws.{text-part}
+use Rattle.text.specs.Laws.Chunks.{text-part}
 use Rattle.text.proofs.read_string.Statement.{statement}
 use Rattle.text.proofs.read_string.Tie as tie
 

@@ -6,7 +6,7 @@ use lib.ListN.{length}
 use borrow.Author.Needs.{needs}
 use borrow.Author.Tests.{not-true, not-false}
 use Rattle.window.specs.Window.{canRead}
-use Rattle.text.specs.Laws.{text-below}
+use Rattle.text.specs.Laws.Chunks.{text-below}
 use Rattle.text.proofs.Steps.{Rest, rest-start, rest-full, rest-refused, rest-fits, rest-judged, rest-again}
 use Rattle.text.proofs.read_string_at_ptr.Statement.{statement}
 use Rattle.text.proofs.read_string_at_ptr.Tie as tie

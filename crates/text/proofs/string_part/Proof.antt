@@ -1,7 +1,7 @@
 use native.Mathlib.Omega.{arith}
 use mathlib.Core.Path.{sym}
 use borrow.Author.Needs.{needs}
-use Rattle.text.specs.Laws.{part-outside}
+use Rattle.text.specs.Laws.Chunks.{part-outside}
 use Rattle.text.proofs.Steps.{part-held}
 use Rattle.text.proofs.string_part.Statement.{statement}
 use Rattle.text.proofs.string_part.Tie as tie

@@ -2,7 +2,7 @@ use Prim.Native.Nat.{_≤_, _+_, _*_}
 use native.Mathlib.Omega.{arith}
 use mathlib.Core.Path.{_≡_, _∙_, refl}
 use borrow.Author.Needs.{needs}
-use Rattle.walk.specs.Passes.{romsNumber}
+use Rattle.walk.specs.Code.Passes.{romsNumber}
 use Rattle.walk.proofs.Steps.{roms-none, roms-stop, roms-next}
 use Rattle.walk.proofs.judge_roms.Statement.{statement}
 use Rattle.walk.proofs.judge_roms.Tie as tie

@@ -2,11 +2,11 @@ use Prim.Native.Nat.{_≤_, _+_, _*_, _-_}
 use native.Mathlib.Omega.{arith}
 use mathlib.Core.Path.{_≡_, _∙_, refl}
 use borrow.Author.Needs.{needs}
-use Rattle.walk.specs.Judged.{walked-good, walked-bad}
-use Rattle.walk.specs.Passes.{setsNumber, strideOf}
+use Rattle.walk.specs.Code.Judged.{walked-good, walked-bad}
+use Rattle.walk.specs.Code.Passes.{setsNumber, strideOf}
 use Rattle.le.specs.Le.{u8At}
 use Rattle.set_header.specs.Laws.{stride-bound}
-use Rattle.walk.specs.PassLaws.{romsIn, total-none, total-step}
+use Rattle.walk.specs.Laws.Passes.{romsIn, total-none, total-step}
 use Rattle.walk.proofs.Steps.{sets-none, sets-stop, sets-next}
 use Rattle.walk.proofs.judge_sets.Statement.{statement}
 use Rattle.walk.proofs.judge_sets.Tie as tie

@@ -3,7 +3,7 @@ use lib.ListN.{length}
 use borrow.Author.Needs.{needs}
 use borrow.Author.Tests.{eq-eqb, ne-eqb}
 use Rattle.mangle.specs.BaseZero.{controls, leastOf, leastPin}
-use Rattle.mangle.specs.LeastLaws.{least-sixteen, least-seven}
+use Rattle.mangle.specs.Laws.Least.{least-sixteen, least-seven}
 use Rattle.mangle.proofs.base_zero.least_pin.Statement.{statement}
 use Rattle.mangle.proofs.base_zero.least_pin.Tie as tie
 use Rattle.mangle.proofs.base_zero.least_pin.Reads as reads

@@ -1,5 +1,5 @@
 use borrow.Author.Tests.{lt-ltb, le-ltb}
-use Rattle.mangle.specs.LeastLaws.{lesser}
+use Rattle.mangle.specs.Laws.Least.{lesser}
 use Rattle.mangle.proofs.base_zero.lesser.Statement.{statement}
 use Rattle.mangle.proofs.base_zero.lesser.Tie as tie
 

@@ -4,7 +4,7 @@ use mathlib.Core.Path.{_≡_, _∙_, sym}
 use lib.ListN.{length, getD, drop}
 use borrow.Author.Needs.{needs}
 use Rattle.mangle.specs.Bits.{taken, gather}
-use Rattle.mangle.specs.Laws.{taken-lt}
+use Rattle.mangle.specs.Laws.Bits.{taken-lt}
 use Rattle.mangle.proofs.Steps.{gather-on, gather-end, with-lt}
 use Rattle.mangle.proofs.bits.gathered.Statement.{statement}
 use Rattle.mangle.proofs.bits.gathered.Tie as tie

@@ -3,7 +3,7 @@ use native.Mathlib.Omega.{arith}
 use mathlib.Core.Path.{_≡_, _∙_, sym, refl}
 use lib.ListN.{length, drop}
 use borrow.Author.Needs.{needs}
-use Rattle.mangle.specs.RaiseLaws.{raisedBy}
+use Rattle.mangle.specs.Laws.Raise.{raisedBy}
 use Rattle.mangle.proofs.Steps.{raised-on, raised-end}
 use Rattle.mangle.proofs.bits.raised.Statement.{statement}
 use Rattle.mangle.proofs.bits.raised.Tie as tie

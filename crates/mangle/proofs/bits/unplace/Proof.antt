@@ -3,7 +3,7 @@ use mathlib.Core.Path.{_≡_}
 use lib.ListN.{length}
 use borrow.Author.Needs.{needs}
 use Rattle.mangle.specs.Bits.{gather}
-use Rattle.mangle.specs.Laws.{gather-lt}
+use Rattle.mangle.specs.Laws.Bits.{gather-lt}
 use Rattle.mangle.proofs.bits.unplace.Statement.{statement}
 use Rattle.mangle.proofs.bits.unplace.Tie as tie
 

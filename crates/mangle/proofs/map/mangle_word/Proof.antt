@@ -1,6 +1,6 @@
 use borrow.Author.Needs.{needs}
 use borrow.Author.Tests.{ne-eqb}
-use Rattle.mangle.specs.Words.{mangleWord}
+use Rattle.mangle.specs.Code.{mangleWord}
 use Rattle.mangle.proofs.map.mangle_word.Statement.{statement}
 use Rattle.mangle.proofs.map.mangle_word.Tie as tie
 

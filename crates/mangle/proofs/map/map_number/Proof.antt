@@ -1,5 +1,5 @@
 use borrow.Author.Needs.{needs}
-use Rattle.mangle.specs.Words.{wordNumber}
+use Rattle.mangle.specs.Code.{wordNumber}
 use Rattle.mangle.proofs.map.map_number.Statement.{statement}
 use Rattle.mangle.proofs.map.map_number.Tie as tie
 

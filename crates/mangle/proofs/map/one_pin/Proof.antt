@@ -5,9 +5,9 @@ use borrow.Author.Needs.{needs}
 use borrow.Author.Tests.{le-ltb}
 use Rattle.mangle.specs.BaseZero.{lowered}
 use Rattle.mangle.specs.Bits.{taken}
-use Rattle.mangle.specs.Laws.{taken-lt}
-use Rattle.mangle.specs.WordLaws.{on-lt, level-on, or-on, limit-in, limit-out, all-taken}
-use Rattle.mangle.specs.Words.{onPin}
+use Rattle.mangle.specs.Laws.Bits.{taken-lt}
+use Rattle.mangle.specs.Laws.Words.{on-lt, level-on, or-on, limit-in, limit-out, all-taken}
+use Rattle.mangle.specs.Code.{onPin}
 use Rattle.mangle.proofs.map.one_pin.Statement.{statement}
 use Rattle.mangle.proofs.map.one_pin.Tie as tie
 

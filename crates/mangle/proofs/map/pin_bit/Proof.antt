@@ -1,7 +1,7 @@
 use Prim.Native.Nat.{_+_, _-_}
 use native.Mathlib.Omega.{arith}
 use borrow.Author.Needs.{needs}
-use Rattle.mangle.specs.WordLaws.{top-shr}
+use Rattle.mangle.specs.Laws.Words.{top-shr}
 use Rattle.mangle.proofs.map.pin_bit.Statement.{statement}
 use Rattle.mangle.proofs.map.pin_bit.Tie as tie
 

@@ -1,6 +1,6 @@
 use borrow.Author.Needs.{needs}
 use borrow.Author.Tests.{le-ltb}
-use Rattle.mangle.specs.Words.{onPin}
+use Rattle.mangle.specs.Code.{onPin}
 use Rattle.mangle.proofs.map.put.Statement.{statement}
 use Rattle.mangle.proofs.map.put.Tie as tie
 

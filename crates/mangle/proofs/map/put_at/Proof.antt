@@ -6,8 +6,8 @@ use lib.Bits.{and-le-l}
 use lib.Pow.{shl-exact, pow-lt}
 use borrow.Author.Needs.{needs}
 use borrow.Author.Tests.{lt-ltb}
-use Rattle.mangle.specs.WordLaws.{and-bit, bit-le}
-use Rattle.mangle.specs.Words.{onPin}
+use Rattle.mangle.specs.Laws.Words.{and-bit, bit-le}
+use Rattle.mangle.specs.Code.{onPin}
 use Rattle.mangle.proofs.map.put_at.Statement.{statement}
 use Rattle.mangle.proofs.map.put_at.Tie as tie
 

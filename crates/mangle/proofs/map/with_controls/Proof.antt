@@ -5,8 +5,8 @@ use mathlib.Core.List.{map}
 use lib.ListN.{length, drop}
 use borrow.Author.Needs.{needs}
 use Rattle.mangle.specs.BaseZero.{lowered}
-use Rattle.mangle.specs.WordLaws.{control-lt}
-use Rattle.mangle.specs.Words.{onControls}
+use Rattle.mangle.specs.Laws.Words.{control-lt}
+use Rattle.mangle.specs.Code.{onControls}
 use Rattle.mangle.proofs.Steps.{control-on, control-end}
 use Rattle.mangle.proofs.map.with_controls.Statement.{statement}
 use Rattle.mangle.proofs.map.with_controls.Tie as tie

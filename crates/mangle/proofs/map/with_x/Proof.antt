@@ -1,8 +1,8 @@
 use borrow.Author.Needs.{needs}
 use Rattle.mangle.specs.BaseZero.{lowered}
-use Rattle.mangle.specs.Laws.{taken-lt}
-use Rattle.mangle.specs.WordLaws.{on-lt}
-use Rattle.mangle.specs.Words.{onX}
+use Rattle.mangle.specs.Laws.Bits.{taken-lt}
+use Rattle.mangle.specs.Laws.Words.{on-lt}
+use Rattle.mangle.specs.Code.{onX}
 use Rattle.mangle.proofs.map.with_x.Statement.{statement}
 use Rattle.mangle.proofs.map.with_x.Tie as tie
 

@@ -1,0 +1,45 @@
+-- Demand 3 of the code. `replied`, `setsAfter` and `romsAfter` (fw_parser/Promises) are what `parse_flash` ensures; `romRead` is what each read
+-- of rom_reads ensures, on a board that `board` makes of the report.
+-- Assumes nothing.
+use Prim.Native.Nat.{ℕ, _≤_}
+use mathlib.Core.Path.{_≡_, refl, ap}
+use mathlib.Core.List.{List}
+use lib.ListN.{length, take}
+use Rattle.fw_parser.specs.declared.Settings.{Settings}
+use Rattle.fw_parser.specs.declared.SdrrInfo.{SdrrInfo}
+use Rattle.fw_parser.specs.Opening.{Opened, refused, opened}
+use Rattle.fw_parser.specs.Reply.{replyOf, boardOf}
+use Rattle.fw_parser.specs.Laws.Fits.{Fits, opening-fits}
+use Rattle.fw_parser.specs.Laws.Promises.{replied, setsAfter, romsAfter}
+use Rattle.info.specs.Lent.{Lent}
+use Rattle.rom_reads.specs.Calls.{lentBy}
+use Rattle.cut_short.specs.FirstRead.{lentOf}
+use Rattle.cut_short.specs.Demand3.{openWith, Opens, reachWith, Demand3}
+use Rattle.cut_short.specs.Laws.Proof.{demand3}
+
+module _ (s : Settings) (sets roms x : List ℕ) where
+  -- "opens", of which demand 3 speaks, is the number 0 of the code
+  pub number-0-opens : replied s sets roms x .number ≡ 0 → Opens (openWith s sets roms x)
+  unfolding replyOf
+  number-0-opens h = go (openWith s sets roms x) h (opening-fits (length sets) (length roms) s x)
+    where
+      go : (p : Opened) → replyOf p .number ≡ 0 → Fits (length sets) (length roms) p → Opens p
+      go (refused n) i f = absurd (f i)
+      go (opened r ss names) i f = tt
+
+  -- the whole of it, for every image that the code opens and every cut
+  pub cut-short : replied s sets roms x .number ≡ 0 → (k : ℕ) → Demand3 s sets roms x k
+  cut-short h k = demand3 s sets roms x (number-0-opens h) k
+
+  -- its first clause, as the code replies
+  pub reply-past : replied s sets roms x .number ≡ 0 → (k : ℕ) → reachWith s sets roms x ≤ k
+      → (replied s sets roms (take k x) ≡ replied s sets roms x)
+      × (setsAfter s sets roms (take k x) ≡ setsAfter s sets roms x)
+      × (romsAfter s sets roms (take k x) ≡ romsAfter s sets roms x)
+  reply-past h k l =
+      let d = cut-short h k in
+      (ap replyOf (d .report-past l), d .set-rows-past l, d .rom-rows-past l)
+
+-- a read on the board of a report is a read on that report, of which the last clause speaks
+pub on-board : (s : Settings) (r : SdrrInfo) (sets roms : List ℕ) → lentBy (boardOf s r) sets roms ≡ lentOf r sets roms
+on-board s r sets roms = refl

@@ -1,0 +1,81 @@
+-- Document 01, "ROM data": the served count sums accepted lengths since opening, over any history of reads.
+-- Assumes nothing.
+use Prim.Native.Nat.{ℕ, _+_, _≤_}
+use native.Mathlib.Omega.{arith}
+use mathlib.Core.Path.{_≡_, refl, sym, ap, _∙_}
+use mathlib.Core.Bool.{Bool, true, false, not}
+use mathlib.Core.List.{List, [], _∷_}
+use lib.Dec.{ltb, eqb}
+use borrow.Author.Tests.{ltb-false, eqb-true, eq-eqb}
+use Rattle.base.specs.Laws.{clash}
+use Rattle.base.specs.Choice.{pick}
+use Rattle.window.specs.Window.{baseAfter, beyondWindow}
+use Rattle.prog.specs.Prog.{run}
+use Rattle.prog.specs.Laws.Run.{run-map}
+use Rattle.info.specs.Lent.{Lent}
+use Rattle.info.specs.Reads.{Bytes, noBytes, countNumber, RomRead, lengthOf, storedP, shownOf, finished, readP, Reply, replyOf, romRead, countAfter}
+
+-- the length of a read that was accepted, 0 of one that was refused
+abbrev pub acceptedLength : Reply → RomRead → ℕ
+acceptedLength t r = pick (eqb (t .number) 0) (lengthOf r) 0
+
+-- the accepted lengths of a history, added up
+unfoldable pub acceptedLengths : (flashBase cs0Base : ℕ) → Lent → List ℕ → ℕ → List RomRead → ℕ
+acceptedLengths flashBase cs0Base l x count [] = 0
+acceptedLengths flashBase cs0Base l x count (r ∷ rs) =
+    acceptedLength (romRead flashBase cs0Base l count r x) r
+    + acceptedLengths flashBase cs0Base l x (romRead flashBase cs0Base l count r x .count) rs
+
+module _ (flashBase cs0Base : ℕ) (l : Lent) (x : List ℕ) where
+  -- one read: an accepted one adds its length, a refused one nothing
+  pub count-step : (count : ℕ) (r : RomRead) → romRead flashBase cs0Base l count r x .count ≡ count + acceptedLength (romRead flashBase cs0Base l count r x) r
+  unfolding romRead
+  count-step count r =
+      go (beyondWindow flashBase cs0Base x) (run (readP (baseAfter flashBase cs0Base (l .line)) l count r) x)
+    where
+      plain : (b : Bool) (n : ℕ) → pick b (count + n) count ≡ count + pick b n 0
+      plain true n = refl
+      plain false n = omega arith
+
+      go : (b : Bool) (bs : Bytes)
+          → pick b (record { number = 1; bytes = []; count = count }) (replyOf count r bs) .count
+          ≡ count + acceptedLength (pick b (record { number = 1; bytes = []; count = count }) (replyOf count r bs)) r
+      go true bs = omega arith
+      go false bs = plain (eqb (bs .number) 0) (lengthOf r)
+
+  -- a history: the count is what it was, and the accepted lengths
+  pub count-sums : (count : ℕ) (rs : List RomRead) → countAfter flashBase cs0Base l x count rs ≡ count + acceptedLengths flashBase cs0Base l x count rs
+  unfolding countAfter acceptedLengths
+  count-sums count [] = omega arith
+  count-sums count (r ∷ rs) =
+      let a = count-step count r in
+      let b = count-sums (romRead flashBase cs0Base l count r x .count) rs in
+      omega arith
+
+  -- 82 keeps it within 32 bits
+  counted : (count : ℕ) (r : RomRead) (b : Bytes) → finished l count r b .number ≡ 0 → count + lengthOf r ≤ 4294967295
+  unfolding finished countNumber
+  counted count r b e = go (eqb (b .number) 0) (ltb 4294967295 (count + lengthOf r)) refl refl e
+    where
+      go : (c d : Bool) → eqb (b .number) 0 ≡ c → ltb 4294967295 (count + lengthOf r) ≡ d
+          → pick (not c) b (pick (not (eqb (pick d 82 0) 0)) (noBytes (pick d 82 0)) (shownOf l r b)) .number ≡ 0 → count + lengthOf r ≤ 4294967295
+      go c false g h f = ltb-false 4294967295 (count + lengthOf r) h
+      go true true g h f = let z : _≡_ {A = ℕ} 82 0 = f in absurd (omega arith)
+      go false true g h f = let y : eqb (b .number) 0 ≡ true = eq-eqb (b .number) 0 f in clash (cc)
+
+  pub count-fits : (count : ℕ) (r : RomRead) → count ≤ 4294967295 → romRead flashBase cs0Base l count r x .count ≤ 4294967295
+  unfolding romRead readP
+  count-fits count r c =
+      go (beyondWindow flashBase cs0Base x)
+    where
+      base : ℕ
+      base = baseAfter flashBase cs0Base (l .line)
+
+      kept : (b : Bool) → eqb (run (readP base l count r) x .number) 0 ≡ b → pick b (count + lengthOf r) count ≤ 4294967295
+      kept false h = c
+      kept true h =
+          counted count r (run (storedP base l r) x) (ap (λ (t : Bytes). t .number) (sym (run-map x (finished l count r) (storedP base l r))) ∙ eqb-true _ 0 h)
+
+      go : (a : Bool) → pick {A = Reply} a (record { number = 1; bytes = []; count = count }) (replyOf count r (run (readP base l count r) x)) .count ≤ 4294967295
+      go true = c
+      go false = kept (eqb (run (readP base l count r) x .number) 0) refl

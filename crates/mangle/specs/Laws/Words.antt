@@ -1,0 +1,290 @@
+-- Pins set one after the other come to the map and its placing.
+-- Assumes nothing.
+use Prim.Native.Nat.{ℕ, zero, suc, _+_, _*_, _-_, _/_, _%_, _^_, _≤_, _<_}
+use native.Mathlib.Nat.{mod-lt, add-zero, one-mul, pow-suc, mul-assoc, mul-le-mul-right, not-suc-le-zero, le-of-suc-le-suc}
+use native.Mathlib.Omega.{arith}
+use mathlib.Core.Path.{_≡_, refl, sym, ap, _∙_}
+use mathlib.Core.Bool.{Bool, true, false, not}
+use mathlib.Core.List.{List, [], _∷_, map}
+use lib.Bits.{bitAnd, bitOr, and-block, and-mask, and-le-l, and-zero-r, or-add-and, or-lt}
+use lib.Dec.{ltb, eqb}
+use lib.ListN.{length, getD, set, length-set, List·getD-eq-default}
+use lib.Pow.{split, pow-add, pow-pos, pow-lt, shl-shr, ones-split, ones-lt, high}
+use lib.Seq.{set-out}
+use borrow.Author.Tests.{ltb-true, ltb-false, eqb-true, eqb-false, lt-ltb, le-ltb, ne-eqb}
+use Rattle.base.specs.Choice.{pick}
+use Rattle.types.specs.declared.SdrrRomType.{SdrrRomType}
+use Rattle.types.specs.declared.SdrrCsSet.{SdrrCsSet}
+use Rattle.pins.specs.declared.SdrrPins.{SdrrPins}
+use Rattle.mangle.specs.BaseZero.{lowered, leastPin, loweredBy, baseZero}
+use Rattle.mangle.specs.Bits.{bitAt, taken, gather}
+use Rattle.mangle.specs.Laws.Bits.{taken-lt, bit-gather, address-length, x-length, one-length}
+use Rattle.mangle.specs.Mangle.{levels, inputWord, aboveMask, mangleNumber, answer, mangleBy, mangleOf, mangleCore}
+use Rattle.mangle.specs.PinMap.{unmapped, withAddress, addressMap, withX, controlPins, withControl, withControls, isMapped, mapNumber, wholeMap, mapBy, mapOf, pinMap}
+use Rattle.mangle.specs.Rules.{none, isBit, controlBits, is28C16, several}
+use Rattle.mangle.specs.Code.{onPin, onPins, allHigh, placed, isHighPin, onX, onControl, onControls, wordNumber, wholeWord, mangleWord}
+
+-- ---- one pin
+
+pub and-bit : (v p : ℕ) → bitAnd v (2 ^ p) ≡ bitAt v p * 2 ^ p
+unfolding bitAt
+and-bit v p =
+    let q : ℕ = 2 ^ p in
+    let e : 1 * 2 ^ p + 0 ≡ 2 ^ p = omega arith in
+    let b : bitAnd (v / 2 ^ p * 2 ^ p + v % 2 ^ p) (1 * 2 ^ p + 0) ≡ bitAnd (v / 2 ^ p) 1 * 2 ^ p + bitAnd (v % 2 ^ p) 0 =
+    and-block p (v / 2 ^ p) 1 (v % 2 ^ p) 0 (mod-lt v (pow-pos p)) (pow-pos p) in
+    ap (λ x. bitAnd x (2 ^ p)) (sym (split v p))
+    ∙ ap (λ x. bitAnd (v / 2 ^ p * 2 ^ p + v % 2 ^ p) x) (sym e)
+    ∙ b
+    ∙ rw (and-mask (v / 2 ^ p) 1, and-zero-r (v % 2 ^ p)) (add-zero _)
+
+pub bit-le : (b q : ℕ) → b < 2 → b * q ≤ q
+bit-le b q h = let e = mul-le-mul-right q (le-of-suc-le-suc h) in omega arith
+
+pub on-lt : (v p b : ℕ) → v < 65536 → b < 2 → onPin v p b < 65536
+unfolding onPin
+on-lt v p b h k = go (ltb p 16) refl
+  where
+    go : (c : Bool) → ltb p 16 ≡ c → pick c (v - bitAt v p * 2 ^ p + b * 2 ^ p) v < 65536
+    go true e =
+        let s = or-add-and v (2 ^ p) in
+        let a = and-bit v p in
+        let o : bitOr v (2 ^ p) < 65536 = or-lt 16 v (2 ^ p) h (pow-lt (ltb-true p 16 e)) in
+        let l = bit-le b (2 ^ p) k in
+        let u = and-le-l v (2 ^ p) in
+        omega arith
+    go false e = h
+
+-- a pin at level b, from its bit q
+pub level-on : (v p q b : ℕ) → p < 16 → q ≡ 2 ^ p → v - bitAnd v q + b * q ≡ onPin v p b
+unfolding onPin
+level-on v p q b h e = rw (e, lt-ltb p 16 h, and-bit v p) refl
+
+pub or-on : (v p q : ℕ) → p < 16 → q ≡ 2 ^ p → bitOr v q ≡ onPin v p 1
+or-on v p q h e =
+    let s = or-add-and v q in
+    let u = and-le-l v q in
+    let l : v - bitAnd v q + 1 * q ≡ onPin v p 1 = level-on v p q 1 h e in
+    omega arith
+
+-- a bit from the highest of the sixteen
+pub top-shr : (p q : ℕ) → p + q ≡ 15 → 32768 / 2 ^ q ≡ 2 ^ p
+top-shr p q h =
+    let e : 32768 ≡ 2 ^ p * 2 ^ q = ap (λ n. 2 ^ n) (sym h) ∙ pow-add 2 p q in
+    ap (λ n. n / 2 ^ q) e ∙ shl-shr (2 ^ p) q
+
+pub x-lt : (v x1 x2 w : ℕ) → v < 65536 → onX v x1 x2 w < 65536
+unfolding onX
+x-lt v x1 x2 w h = on-lt (onPin v x1 (taken w 14)) x2 (taken w 15) (on-lt v x1 (taken w 14) h (taken-lt w 14)) (taken-lt w 15)
+
+pub control-lt : (v p b w : ℕ) → v < 65536 → onControl v p b w < 65536
+unfolding onControl
+control-lt v p b w h = go (isBit b)
+  where
+    go : (c : Bool) → pick c (onPin v p (taken w b)) v < 65536
+    go true = on-lt v p (taken w b) h (taken-lt w b)
+    go false = h
+
+pub pins-lt : (ps : List ℕ) (i w v : ℕ) → v < 65536 → onPins ps i w v < 65536
+unfolding onPins
+pins-lt [] i w v h = h
+pins-lt (p ∷ ps) i w v h = pins-lt ps (suc i) w (onPin v p (taken w i)) (on-lt v p (taken w i) h (taken-lt w i))
+
+-- ---- a pin against the limit, before it is lowered
+
+-- the pins below it are those of the sixteen when lowered by m
+abbrev pub limit : ℕ → ℕ
+limit m = pick (ltb m 239) (m + 16) 255
+
+limit-le : (m : ℕ) → (limit m ≤ m + 16) × (limit m ≤ 255)
+limit-le m = go (ltb m 239) refl
+  where
+    go : (c : Bool) → ltb m 239 ≡ c → (pick c (m + 16) 255 ≤ m + 16) × (pick c (m + 16) 255 ≤ 255)
+    go true e = let h = ltb-true m 239 e in (omega arith, omega arith)
+    go false e = let h = ltb-false m 239 e in (omega arith, omega arith)
+
+pub limit-in : (m p : ℕ) → p < limit m → (lowered m p ≡ p - m) × (p - m < 16)
+unfolding lowered
+limit-in m p h =
+    let l : limit m ≤ m + 16 = limit-le m .0 in
+    let k : limit m ≤ 255 = limit-le m .1 in
+    let e : eqb p 255 ≡ false = ne-eqb p 255 (λ q. omega arith) in
+    (rw e refl, omega arith)
+
+pub limit-out : (m p : ℕ) → p < 256 → limit m ≤ p → 16 ≤ lowered m p
+unfolding lowered
+limit-out m p b h = go (ltb m 239) (eqb p 255) refl refl h
+  where
+    go : (c d : Bool) → ltb m 239 ≡ c → eqb p 255 ≡ d → pick c (m + 16) 255 ≤ p → 16 ≤ pick d p (p - m)
+    go true true e f h = let k = eqb-true p 255 f in omega arith
+    go true false e f h = omega arith
+    go false true e f h = omega arith
+    go false false e f h = let k = eqb-false p 255 f in absurd (k (omega arith))
+
+-- an entry exchanged
+exchanged : (m : List ℕ) (x p e : ℕ) → p < length m
+    → gather (set m p e) x + taken x (getD m p none) * 2 ^ p ≡ gather m x + taken x e * 2 ^ p
+unfolding gather
+exchanged [] x p e h = absurd (not-suc-le-zero h)
+exchanged (d ∷ m) x zero e h = omega arith
+exchanged (d ∷ m) x (suc p) e h =
+    rw (pow-suc 2 p, ← mul-assoc (taken x (getD m p none)) (2 ^ p) 2, ← mul-assoc (taken x e) (2 ^ p) 2)
+    (let i = exchanged m x p e (le-of-suc-le-suc h) in omega arith)
+
+none-taken : (x : ℕ) → taken x none ≡ 0
+unfolding taken
+none-taken x = refl
+
+pub on-gather : (m : List ℕ) (x p e : ℕ) → length m ≡ 16 → onPin (gather m x) p (taken x e) ≡ gather (set m p e) x
+unfolding onPin
+on-gather m x p e h = go (ltb p 16) refl
+  where
+    go : (c : Bool) → ltb p 16 ≡ c
+        → pick c (gather m x - bitAt (gather m x) p * 2 ^ p + taken x e * 2 ^ p) (gather m x) ≡ gather (set m p e) x
+    go true t =
+        let k : p < length m = rw h (ltb-true p 16 t) in
+        let i = exchanged m x p e k in
+        let j : gather (set m p none) x + taken x (getD m p none) * 2 ^ p ≡ gather m x + 0 * 2 ^ p = rw (none-taken x) at (exchanged m x p none k) in
+        rw (bit-gather m x p) (omega arith)
+    go false t = ap (λ l. gather l x) (sym (set-out m p e (rw h (ltb-false p 16 t))))
+
+-- ---- the address pins, X1 and X2, the control pins
+
+pub pins-gather : (ps : List ℕ) (i x : ℕ) (m : List ℕ) → length m ≡ 16 → onPins ps i x (gather m x) ≡ gather (withAddress ps i m) x
+unfolding onPins withAddress
+pins-gather [] i x m h = refl
+pins-gather (p ∷ ps) i x m h = rw (on-gather m x p i h) (pins-gather ps (suc i) x (set m p i) (length-set m p i ∙ h))
+
+x-gather : (m : List ℕ) (x1 x2 x : ℕ) → length m ≡ 16 → onX (gather m x) x1 x2 x ≡ gather (withX m x1 x2) x
+unfolding onX withX
+x-gather m x1 x2 x h = rw (on-gather m x x1 14 h) (on-gather (set m x1 14) x x2 15 (length-set m x1 14 ∙ h))
+
+control-gather : (m : List ℕ) (p b x : ℕ) → length m ≡ 16 → onControl (gather m x) p b x ≡ gather (withControl m p b) x
+unfolding onControl withControl
+control-gather m p b x h = go (isBit b)
+  where
+    go : (c : Bool) → pick c (onPin (gather m x) p (taken x b)) (gather m x) ≡ gather (pick c (set m p b) m) x
+    go true = on-gather m x p b h
+    go false = refl
+
+controls-gather : (ps bs : List ℕ) (x : ℕ) (m : List ℕ) → length m ≡ 16 → onControls ps bs x (gather m x) ≡ gather (withControls ps bs m) x
+unfolding onControls withControls
+controls-gather [] bs x m h = refl
+controls-gather (p ∷ ps) [] x m h = refl
+controls-gather (p ∷ ps) (b ∷ bs) x m h =
+    rw (control-gather m p b x h) (controls-gather ps bs x (withControl m p b) (one-length m p b ∙ h))
+
+whole-gather : (m : List ℕ) (x1 x2 : ℕ) (controls : List ℕ) (count : ℕ) (type : SdrrRomType) (x : ℕ) → length m ≡ 16
+    → wholeWord (gather m x) x1 x2 controls count type x ≡ gather (wholeMap m x1 x2 controls count type) x
+unfolding wholeWord wholeMap
+whole-gather m x1 x2 controls count type x h = go (several count)
+  where
+    go : (c : Bool) → onControls controls (controlBits type) x (pick c (onX (gather m x) x1 x2 x) (gather m x))
+        ≡ gather (withControls controls (controlBits type) (pick c (withX m x1 x2) m)) x
+    go true =
+        rw (x-gather m x1 x2 x h) (controls-gather controls (controlBits type) x (withX m x1 x2) (x-length m x1 x2 ∙ h))
+    go false = controls-gather controls (controlBits type) x m h
+
+-- ---- the numbers
+
+all-high : (e : ℕ) → e < 32 → bitAt allHigh e ≡ 1
+unfolding bitAt
+all-high e h =
+    let k : ℕ = 31 - e in
+    let s : suc (31 - e) + e ≡ 32 = omega arith in
+    let t : (2 ^ suc (31 - e) - 1) * 2 ^ e + (2 ^ e - 1) ≡ allHigh = sym (ones-split (suc (31 - e)) e) ∙ ap (λ n. 2 ^ n - 1) s in
+    let d : allHigh / 2 ^ e ≡ 2 ^ suc (31 - e) - 1 = ap (λ n. n / 2 ^ e) (sym t) ∙ high (2 ^ suc (31 - e) - 1) e (ones-lt e) in
+    rw (d, pow-suc 2 (31 - e)) (let z = pow-pos (31 - e) in omega arith)
+
+pub all-taken : (i : ℕ) → i < 32 → taken allHigh i ≡ 1
+unfolding taken
+all-taken i h = rw (lt-ltb i 32 h) (all-high i h)
+
+-- a pin is high under the word of ones if an address bit is on it
+high-mapped : (m : List ℕ) (p : ℕ) → length m ≡ 16 → isHighPin (gather m allHigh) p ≡ isMapped m p
+unfolding taken
+high-mapped m p h = go (isBit p) refl
+  where
+    at : (e : ℕ) (c : Bool) → ltb e 32 ≡ c → eqb (pick c (bitAt allHigh e) 0) 1 ≡ c
+    at e true t = rw (all-high e (ltb-true e 32 t)) refl
+    at e false t = refl
+
+    go : (c : Bool) → ltb p 32 ≡ c → eqb (pick c (bitAt (gather m allHigh) p) 0) 1 ≡ isMapped m p
+    go true t = rw (bit-gather m allHigh p) (at (getD m p none) (isBit (getD m p none)) refl)
+    go false t =
+        let k = ltb-false p 32 t in
+        rw (List·getD-eq-default m none {n = p} (omega arith)) refl
+
+number-mapped : (m : List ℕ) (x1 x2 : ℕ) (controls : List ℕ) (count : ℕ) (type : SdrrRomType) → length m ≡ 16
+    → wordNumber (gather m allHigh) x1 x2 controls count type ≡ mapNumber m x1 x2 controls count type
+unfolding wordNumber mapNumber
+number-mapped m x1 x2 controls count type h = rw (high-mapped m x1 h, high-mapped m x2 h) refl
+
+-- ---- the whole
+
+-- where the map has a number the pins do not count
+kept : (n rest x : ℕ) (l : List ℕ)
+    → answer (pick (not (eqb n 0)) n rest) (gather l x) ≡ answer (pick (not (eqb n 0)) n rest) (gather (pick (eqb n 0) l unmapped) x)
+kept n rest x l = go (eqb n 0) refl
+  where
+    go : (c : Bool) → eqb n 0 ≡ c → answer (pick (not c) n rest) (gather l x) ≡ answer (pick (not c) n rest) (gather (pick c l unmapped) x)
+    go true e = refl
+    go false e = rw e refl
+
+pub word-mangles : (m : List ℕ) (x1 x2 : ℕ) (controls : List ℕ) (count : ℕ) (type : SdrrRomType) (address : ℕ) (ls : List Bool) → length m ≡ 16
+    → mangleWord
+    record { value = gather m (inputWord type count ls address); mapped = gather m allHigh }
+    x1
+    x2
+    controls
+    count
+    type
+    address
+    (inputWord type count ls address)
+    ≡ mangleBy (mapBy m x1 x2 controls count type) count type address ls
+unfolding mangleWord mangleBy mapBy mangleNumber
+word-mangles m x1 x2 controls count type address ls h =
+    let w = inputWord type count ls address in
+    rw (number-mapped m x1 x2 controls count type h, whole-gather m x1 x2 controls count type w h)
+    (kept (mapNumber m x1 x2 controls count type) (pick (aboveMask type address) 77 (pick (is28C16 type) 78 0)) w (wholeMap m x1 x2 controls count type))
+
+placed-gather : (ps : List ℕ) (x : ℕ) → onPins ps 0 x 0 ≡ gather (addressMap ps) x
+unfolding gather taken
+placed-gather ps x = pins-gather ps 0 x unmapped refl
+
+-- the address pins lowered by the least pin, the other pins as base-zero has them
+pub word-core : (pins : SdrrPins) (count : ℕ) (type : SdrrRomType) (address : ℕ) (set : SdrrCsSet)
+    → mangleWord
+    (placed (map (lowered (leastPin pins)) (pins .addr)) (inputWord type count (levels set) address))
+    (baseZero pins .x1)
+    (baseZero pins .x2)
+    (controlPins (baseZero pins))
+    count
+    type
+    address
+    (inputWord type count (levels set) address)
+    ≡ mangleCore pins count type address set
+unfolding mangleCore mangleOf pinMap mapOf baseZero loweredBy
+word-core pins count type address set =
+    let p = baseZero pins in
+    let ps = map (lowered (leastPin pins)) (pins .addr) in
+    let w = inputWord type count (levels set) address in
+    rw (placed-gather ps w, placed-gather ps allHigh)
+    (word-mangles (addressMap ps) (p .x1) (p .x2) (controlPins p) count type address (levels set) (address-length ps 0 unmapped))
+
+-- the map's number, with the pins that address bits are on
+pub word-number : (pins : SdrrPins) (count : ℕ) (type : SdrrRomType) (word : ℕ)
+    → wordNumber
+    (placed (map (lowered (leastPin pins)) (pins .addr)) word .mapped)
+    (baseZero pins .x1)
+    (baseZero pins .x2)
+    (controlPins (baseZero pins))
+    count
+    type
+    ≡ pinMap pins count type .number
+unfolding pinMap mapOf mapBy baseZero loweredBy
+word-number pins count type word =
+    let p = baseZero pins in
+    let ps = map (lowered (leastPin pins)) (pins .addr) in
+    rw (placed-gather ps allHigh)
+    (number-mapped (addressMap ps) (p .x1) (p .x2) (controlPins p) count type (address-length ps 0 unmapped))

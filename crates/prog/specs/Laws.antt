@@ -1,0 +1,9 @@
+pub mod Agree
+pub mod Counts
+pub mod Cut
+pub mod Honest
+pub mod Parts
+pub mod Reach
+pub mod Read
+pub mod Record
+pub mod Run

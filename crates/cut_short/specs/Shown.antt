@@ -14,7 +14,7 @@ use Rattle.fw_parser.specs.Opening.{Opened, refused, opened}
 
 -- a name of the list, by its ROM row
 abbrev pub nameOf : List Text → ℕ → Text
-nameOf names i = getD names i (T.refused 1)
+nameOf names i = getD names i (T.refusedText 1)
 
 -- at least one item is marked as ended, names being items too
 abbrev pub EndedReport : SdrrInfo → List Text → Type 0

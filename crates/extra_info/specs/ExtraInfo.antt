@@ -20,8 +20,8 @@ abbrev pub pioDefaultOf : FirmwareVersion → List ℕ → FirePioDefault
 pioDefaultOf v s = pick (from060 v) (FirePioDefault.Given (flagAt s 7)) FirePioDefault.NotGiven
 
 -- where each field stands in the record; a USB port that is not known counts as none
-unfoldable pub fieldsOf : FirmwareVersion → List ℕ → SdrrExtraInfo
-fieldsOf v s =
+unfoldable pub extraInfoFields : FirmwareVersion → List ℕ → SdrrExtraInfo
+extraInfoFields v s =
     record {
       «rtt_ptr» = u32At s 0;
       «usb_dfu» = flagAt s 4;
@@ -43,13 +43,13 @@ noExtraInfo =
       «runtime_info_ptr» = 4294967295;
     }
 
-abbrev pub refused : ℕ → ExtraInfoItem
-refused n = record { number = n; «extra_info» = noExtraInfo }
+abbrev pub refusedExtraInfo : ℕ → ExtraInfoItem
+refusedExtraInfo n = record { number = n; «extra_info» = noExtraInfo }
 
 -- the record from its address on; 2: ended
 unfoldable pub extraInfoOf : FirmwareVersion → List ℕ → ExtraInfoItem
-extraInfoOf v s = pick (ltb (length s) 256) (refused 2) (record { number = 0; «extra_info» = fieldsOf v s })
+extraInfoOf v s = pick (ltb (length s) 256) (refusedExtraInfo 2) (record { number = 0; «extra_info» = extraInfoFields v s })
 
 -- 3: below base. 2: ended.
 unfoldable pub extraInfoP : ℕ → ℕ → FirmwareVersion → Prog ExtraInfoItem
-extraInfoP base pointer v = recordP base pointer 256 refused (extraInfoOf v)
+extraInfoP base pointer v = recordP base pointer 256 refusedExtraInfo (extraInfoOf v)

@@ -13,7 +13,7 @@ use Rattle.version.specs.declared.FirmwareVersion.{FirmwareVersion}
 use Rattle.version.specs.Version.{from060}
 use Rattle.extra_info.specs.declared.FirePioDefault.{FirePioDefault}
 use Rattle.extra_info.specs.declared.ExtraInfoItem.{ExtraInfoItem}
-use Rattle.extra_info.specs.ExtraInfo.{pioDefaultOf, fieldsOf, refused, extraInfoOf, extraInfoP}
+use Rattle.extra_info.specs.ExtraInfo.{pioDefaultOf, extraInfoFields, refusedExtraInfo, extraInfoOf, extraInfoP}
 
 pub extra-info-honest : (base pointer : ℕ) (v : FirmwareVersion) → Honest (λ (a : ExtraInfoItem). a .number ≡ 2) (extraInfoP base pointer v)
 unfolding extraInfoP
@@ -21,7 +21,7 @@ extra-info-honest base pointer v = search honesty
 
 module _ (v : FirmwareVersion) where
   pub extra-info-front : (s : List ℕ) → extraInfoOf v (take 256 s) ≡ extraInfoOf v s
-  unfolding extraInfoOf fieldsOf
+  unfolding extraInfoOf extraInfoFields
   extra-info-front s = simp (front-short 256, front-byte 256)
 
   module _ (s : List ℕ) where
@@ -31,10 +31,10 @@ module _ (v : FirmwareVersion) where
     pub pio-not-given : from060 v ≡ false → pioDefaultOf v s ≡ FirePioDefault.NotGiven
     pio-not-given e = rw e
 
-    pub extra-info-short : length s < 256 → extraInfoOf v s ≡ refused 2
+    pub extra-info-short : length s < 256 → extraInfoOf v s ≡ refusedExtraInfo 2
     unfolding extraInfoOf
     extra-info-short h = rw (lt-ltb (length s) 256 h)
 
-    pub extra-info-whole : 256 ≤ length s → extraInfoOf v s ≡ record { number = 0; «extra_info» = fieldsOf v s }
+    pub extra-info-whole : 256 ≤ length s → extraInfoOf v s ≡ record { number = 0; «extra_info» = extraInfoFields v s }
     unfolding extraInfoOf
     extra-info-whole h = rw (le-ltb (length s) 256 h)

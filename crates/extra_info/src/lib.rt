@@ -3,7 +3,7 @@ use types::SdrrMcuPort;
 use version::FirmwareVersion;
 ghost use mathlib.Core.Path.{_≡_};
 ghost use Rattle.prog.specs.Prog.{run};
-ghost use Rattle.extra_info.specs.ExtraInfo.{pioDefaultOf, fieldsOf, refused, extraInfoOf, extraInfoP};
+ghost use Rattle.extra_info.specs.ExtraInfo.{pioDefaultOf, extraInfoFields, refusedExtraInfo, extraInfoOf, extraInfoP};
 
 const EXTRA_INFO_SIZE: usize = 256;
 
@@ -29,7 +29,7 @@ pub struct ExtraInfoItem {
 }
 
 pub fn refuse(number: u8) -> ExtraInfoItem
-    ensures { λ r. ⌜ r ≡ refused number ⌝ }
+    ensures { λ r. ⌜ r ≡ refusedExtraInfo number ⌝ }
 {
     ExtraInfoItem {
         number,
@@ -55,7 +55,7 @@ fn fire_pio_default(data: &[u8], version: FirmwareVersion) -> FirePioDefault
 
 // The record's fields. A USB port that is none of the known ones becomes None.
 fn read_fields(data: &[u8], version: FirmwareVersion) -> SdrrExtraInfo
-    ensures { λ r. ⌜ r ≡ fieldsOf version (now («data» .entry)) ⌝ }
+    ensures { λ r. ⌜ r ≡ extraInfoFields version (now («data» .entry)) ⌝ }
 {
     SdrrExtraInfo {
         rtt_ptr: le::u32_at(data, 0),

@@ -8,15 +8,15 @@ use mathlib.Core.List.{List, [], _∷_}
 use lib.ListN.{take, replicate}
 use Rattle.window.specs.Window.{canRead, pastWindow}
 use Rattle.le.specs.Le.{startsWith}
-use Rattle.prog.specs.Prog.{run, trace, endOf, answer, reach, tried, triedShown, readsOf, andThen, looked}
+use Rattle.prog.specs.Prog.{run, trace, endOf, answer, reach, tried, triedShown, readsOf, andThen, triedReads}
 use Rattle.utf8.specs.Utf8.{classOf, lowAfter, highAfter, lacking, isUtf8}
 use Rattle.types.specs.declared.McuLine.{McuLine}
 use Rattle.types.specs.declared.McuStorage.{McuStorage}
 use Rattle.types.specs.declared.SdrrMcuPort.{SdrrMcuPort}
 use Rattle.types.specs.Types.{lineOf, isRp2350, storageOf, portOf}
-use Rattle.text.specs.Text.{hasNul, beforeNul, judged, chunksP, textP, accepted}
+use Rattle.text.specs.Text.{hasNul, beforeNul, judged, chunksP, textP, acceptedText}
 use Rattle.version.specs.Version.{version, before}
-use Rattle.header.specs.Header.{fieldsOf, wholeOf, headerOf, headerP}
+use Rattle.header.specs.Header.{headerFields, wholeOf, headerOf, headerP}
 use Rattle.extra_info.specs.declared.FirePioDefault.{FirePioDefault}
 use Rattle.extra_info.specs.ExtraInfo.{noExtraInfo, extraInfoOf, extraInfoP}
 use Rattle.extra_info.specs.ExtraInfo as E
@@ -31,7 +31,7 @@ use Rattle.walk.specs.Names.{nameP, namesP, walkNamesP}
 use Rattle.walk.specs.Rows.{setRow, countsOf, setRowsAfter, romFront, nameWords, romRow, romRows}
 use Rattle.fw_parser.specs.declared.Settings.{Settings}
 use Rattle.fw_parser.specs.declared.SdrrInfo.{SdrrInfo}
-use Rattle.fw_parser.specs.Opening.{lookP, rowP, reportOf, verdict, openP, opening, Opened, refused, opened, setRowsLeft, romRowsLeft}
+use Rattle.fw_parser.specs.Opening.{lookP, itemsP, reportOf, verdict, openP, opening, Opened, refused, opened, setRowsLeft, romRowsLeft}
 use Rattle.fw_parser.specs.Opening as O
 
 -- what a caller sees: a refusal's number, or the report and both row buffers
@@ -128,8 +128,8 @@ oldReport pins =
         «count_rom_access» = true;
         «boot_config» = 1 ∷ 2 ∷ 3 ∷ 4 ∷ [];
       };
-      «build_date» = accepted 64 3;
-      «hw_rev» = accepted 68 4;
+      «build_date» = acceptedText 64 3;
+      «hw_rev» = acceptedText 68 4;
       «extra_info» = record {
         number = 0;
         «extra_info» = record {
@@ -153,30 +153,30 @@ abbrev oldRomRow : List ℕ
 oldRomRow = 2 ∷ 0 ∷ 2 ∷ 2 ∷ 0 ∷ 0 ∷ 1 ∷ []
 
 old-board : seen stm 8 7 oldImage ≡ shows (oldReport (record { number = 0; pins = oldPins })) oldSetRow oldRomRow
-unfolding pastWindow startsWith run trace endOf canRead answer tried triedShown readsOf andThen looked classOf lowAfter highAfter lacking isUtf8 lineOf isRp2350 storageOf portOf hasNul beforeNul judged chunksP textP before fieldsOf wholeOf headerOf headerP E.fieldsOf noExtraInfo extraInfoOf extraInfoP metadataOf metadataP P.fieldsOf noPins pinsOf pinsP romOf judgeRom romP romsP tableP pointedP setP setsP O.setsP walkP romsOf nameP namesP walkNamesP setRow countsOf setRowsAfter romFront nameWords romRow romRows lookP rowP reportOf verdict openP opening oldImage
+unfolding pastWindow startsWith run trace endOf canRead answer tried triedShown readsOf andThen triedReads classOf lowAfter highAfter lacking isUtf8 lineOf isRp2350 storageOf portOf hasNul beforeNul judged chunksP textP before headerFields wholeOf headerOf headerP E.extraInfoFields noExtraInfo extraInfoOf extraInfoP metadataOf metadataP P.pinsFields noPins pinsOf pinsP romOf judgeRom romP romsP tableP pointedP setP setsP O.setsItemP walkP romsOf nameP namesP walkNamesP setRow countsOf setRowsAfter romFront nameWords romRow romRows lookP itemsP reportOf verdict openP opening oldImage
 old-board = refl
 
 -- every read: header, date, revision, extra info, set, ROM pointer, ROM info, pins
 old-reads : tried (openP stm 8 7) oldImage ≡ 8
-unfolding pastWindow startsWith run trace endOf canRead answer tried triedShown readsOf andThen looked classOf lowAfter highAfter lacking isUtf8 lineOf isRp2350 storageOf portOf hasNul beforeNul judged chunksP textP before fieldsOf wholeOf headerOf headerP E.fieldsOf noExtraInfo extraInfoOf extraInfoP metadataOf metadataP P.fieldsOf noPins pinsOf pinsP romOf judgeRom romP romsP tableP pointedP setP setsP O.setsP walkP romsOf nameP namesP walkNamesP setRow countsOf setRowsAfter romFront nameWords romRow romRows lookP rowP reportOf verdict openP opening oldImage
+unfolding pastWindow startsWith run trace endOf canRead answer tried triedShown readsOf andThen triedReads classOf lowAfter highAfter lacking isUtf8 lineOf isRp2350 storageOf portOf hasNul beforeNul judged chunksP textP before headerFields wholeOf headerOf headerP E.extraInfoFields noExtraInfo extraInfoOf extraInfoP metadataOf metadataP P.pinsFields noPins pinsOf pinsP romOf judgeRom romP romsP tableP pointedP setP setsP O.setsItemP walkP romsOf nameP namesP walkNamesP setRow countsOf setRowsAfter romFront nameWords romRow romRows lookP itemsP reportOf verdict openP opening oldImage
 old-reads = refl
 
 old-reach : reach (openP stm 8 7) oldImage ≡ 488
-unfolding pastWindow startsWith run trace endOf canRead answer tried triedShown readsOf andThen looked classOf lowAfter highAfter lacking isUtf8 lineOf isRp2350 storageOf portOf hasNul beforeNul judged chunksP textP before fieldsOf wholeOf headerOf headerP E.fieldsOf noExtraInfo extraInfoOf extraInfoP metadataOf metadataP P.fieldsOf noPins pinsOf pinsP romOf judgeRom romP romsP tableP pointedP setP setsP O.setsP walkP romsOf nameP namesP walkNamesP setRow countsOf setRowsAfter romFront nameWords romRow romRows lookP rowP reportOf verdict openP opening oldImage
+unfolding pastWindow startsWith run trace endOf canRead answer tried triedShown readsOf andThen triedReads classOf lowAfter highAfter lacking isUtf8 lineOf isRp2350 storageOf portOf hasNul beforeNul judged chunksP textP before headerFields wholeOf headerOf headerP E.extraInfoFields noExtraInfo extraInfoOf extraInfoP metadataOf metadataP P.pinsFields noPins pinsOf pinsP romOf judgeRom romP romsP tableP pointedP setP setsP O.setsItemP walkP romsOf nameP namesP walkNamesP setRow countsOf setRowsAfter romFront nameWords romRow romRows lookP itemsP reportOf verdict openP opening oldImage
 old-reach = refl
 
 -- one byte less, and the pins are ended
-old-cut : seen stm 8 7 (take 487 oldImage) ≡ shows (oldReport (P.refused 2)) oldSetRow oldRomRow
-unfolding pastWindow startsWith run trace endOf canRead answer tried triedShown readsOf andThen looked classOf lowAfter highAfter lacking isUtf8 lineOf isRp2350 storageOf portOf hasNul beforeNul judged chunksP textP before fieldsOf wholeOf headerOf headerP E.fieldsOf noExtraInfo extraInfoOf extraInfoP metadataOf metadataP P.fieldsOf noPins pinsOf pinsP romOf judgeRom romP romsP tableP pointedP setP setsP O.setsP walkP romsOf nameP namesP walkNamesP setRow countsOf setRowsAfter romFront nameWords romRow romRows lookP rowP reportOf verdict openP opening oldImage
+old-cut : seen stm 8 7 (take 487 oldImage) ≡ shows (oldReport (P.refusedPins 2)) oldSetRow oldRomRow
+unfolding pastWindow startsWith run trace endOf canRead answer tried triedShown readsOf andThen triedReads classOf lowAfter highAfter lacking isUtf8 lineOf isRp2350 storageOf portOf hasNul beforeNul judged chunksP textP before headerFields wholeOf headerOf headerP E.extraInfoFields noExtraInfo extraInfoOf extraInfoP metadataOf metadataP P.pinsFields noPins pinsOf pinsP romOf judgeRom romP romsP tableP pointedP setP setsP O.setsItemP walkP romsOf nameP namesP walkNamesP setRow countsOf setRowsAfter romFront nameWords romRow romRows lookP itemsP reportOf verdict openP opening oldImage
 old-cut = refl
 
 -- a row short: 45; no row at all: 44
 old-short : seen stm 8 6 oldImage ≡ closed 45
-unfolding pastWindow startsWith run trace endOf canRead answer tried triedShown readsOf andThen looked classOf lowAfter highAfter lacking isUtf8 lineOf isRp2350 storageOf portOf hasNul beforeNul judged chunksP textP before fieldsOf wholeOf headerOf headerP E.fieldsOf noExtraInfo extraInfoOf extraInfoP metadataOf metadataP P.fieldsOf noPins pinsOf pinsP romOf judgeRom romP romsP tableP pointedP setP setsP O.setsP walkP romsOf nameP namesP walkNamesP setRow countsOf setRowsAfter romFront nameWords romRow romRows lookP rowP reportOf verdict openP opening oldImage
+unfolding pastWindow startsWith run trace endOf canRead answer tried triedShown readsOf andThen triedReads classOf lowAfter highAfter lacking isUtf8 lineOf isRp2350 storageOf portOf hasNul beforeNul judged chunksP textP before headerFields wholeOf headerOf headerP E.extraInfoFields noExtraInfo extraInfoOf extraInfoP metadataOf metadataP P.pinsFields noPins pinsOf pinsP romOf judgeRom romP romsP tableP pointedP setP setsP O.setsItemP walkP romsOf nameP namesP walkNamesP setRow countsOf setRowsAfter romFront nameWords romRow romRows lookP itemsP reportOf verdict openP opening oldImage
 old-short = refl
 
 old-none : seen stm 0 0 oldImage ≡ closed 44
-unfolding pastWindow startsWith run trace endOf canRead answer tried triedShown readsOf andThen looked classOf lowAfter highAfter lacking isUtf8 lineOf isRp2350 storageOf portOf hasNul beforeNul judged chunksP textP before fieldsOf wholeOf headerOf headerP E.fieldsOf noExtraInfo extraInfoOf extraInfoP metadataOf metadataP P.fieldsOf noPins pinsOf pinsP romOf judgeRom romP romsP tableP pointedP setP setsP O.setsP walkP romsOf nameP namesP walkNamesP setRow countsOf setRowsAfter romFront nameWords romRow romRows lookP rowP reportOf verdict openP opening oldImage
+unfolding pastWindow startsWith run trace endOf canRead answer tried triedShown readsOf andThen triedReads classOf lowAfter highAfter lacking isUtf8 lineOf isRp2350 storageOf portOf hasNul beforeNul judged chunksP textP before headerFields wholeOf headerOf headerP E.extraInfoFields noExtraInfo extraInfoOf extraInfoP metadataOf metadataP P.pinsFields noPins pinsOf pinsP romOf judgeRom romP romsP tableP pointedP setP setsP O.setsItemP walkP romsOf nameP namesP walkNamesP setRow countsOf setRowsAfter romFront nameWords romRow romRows lookP itemsP reportOf verdict openP opening oldImage
 old-none = refl
 
 -- ---- 0.6.1 on an Rp2350, two sets, three ROMs, of which two have the same name
@@ -272,8 +272,8 @@ newReport pins =
         «count_rom_access» = false;
         «boot_config» = 1 ∷ 2 ∷ 3 ∷ 4 ∷ [];
       };
-      «build_date» = accepted 64 5;
-      «hw_rev» = accepted 70 7;
+      «build_date» = acceptedText 64 5;
+      «hw_rev» = acceptedText 70 7;
       «extra_info» = record {
         number = 0;
         «extra_info» = record {
@@ -300,14 +300,14 @@ newRomRows o l n rest = 2 ∷ 0 ∷ 2 ∷ 2 ∷ o ∷ l ∷ n ∷ 0 ∷ 0 ∷ 1 
 
 -- a word more than is needed stays as it was
 new-board : seen rp 16 22 newImage ≡ shows (newReport (record { number = 0; pins = newPins })) newSetRows (newRomRows 748 7 0 (0 ∷ []))
-unfolding pastWindow startsWith run trace endOf canRead answer tried triedShown readsOf andThen looked classOf lowAfter highAfter lacking isUtf8 lineOf isRp2350 storageOf portOf hasNul beforeNul judged chunksP textP before fieldsOf wholeOf headerOf headerP E.fieldsOf noExtraInfo extraInfoOf extraInfoP metadataOf metadataP P.fieldsOf noPins pinsOf pinsP romOf judgeRom romP romsP tableP pointedP setP setsP O.setsP walkP romsOf nameP namesP walkNamesP setRow countsOf setRowsAfter romFront nameWords romRow romRows lookP rowP reportOf verdict openP opening newImage
+unfolding pastWindow startsWith run trace endOf canRead answer tried triedShown readsOf andThen triedReads classOf lowAfter highAfter lacking isUtf8 lineOf isRp2350 storageOf portOf hasNul beforeNul judged chunksP textP before headerFields wholeOf headerOf headerP E.extraInfoFields noExtraInfo extraInfoOf extraInfoP metadataOf metadataP P.pinsFields noPins pinsOf pinsP romOf judgeRom romP romsP tableP pointedP setP setsP O.setsItemP walkP romsOf nameP namesP walkNamesP setRow countsOf setRowsAfter romFront nameWords romRow romRows lookP itemsP reportOf verdict openP opening newImage
 new-board = refl
 
 new-reads : tried (openP rp 16 21) newImage ≡ 17
-unfolding pastWindow startsWith run trace endOf canRead answer tried triedShown readsOf andThen looked classOf lowAfter highAfter lacking isUtf8 lineOf isRp2350 storageOf portOf hasNul beforeNul judged chunksP textP before fieldsOf wholeOf headerOf headerP E.fieldsOf noExtraInfo extraInfoOf extraInfoP metadataOf metadataP P.fieldsOf noPins pinsOf pinsP romOf judgeRom romP romsP tableP pointedP setP setsP O.setsP walkP romsOf nameP namesP walkNamesP setRow countsOf setRowsAfter romFront nameWords romRow romRows lookP rowP reportOf verdict openP opening newImage
+unfolding pastWindow startsWith run trace endOf canRead answer tried triedShown readsOf andThen triedReads classOf lowAfter highAfter lacking isUtf8 lineOf isRp2350 storageOf portOf hasNul beforeNul judged chunksP textP before headerFields wholeOf headerOf headerP E.extraInfoFields noExtraInfo extraInfoOf extraInfoP metadataOf metadataP P.pinsFields noPins pinsOf pinsP romOf judgeRom romP romsP tableP pointedP setP setsP O.setsItemP walkP romsOf nameP namesP walkNamesP setRow countsOf setRowsAfter romFront nameWords romRow romRows lookP itemsP reportOf verdict openP opening newImage
 new-reads = refl
 
 -- cut within the name's chunk: the names and the pins are ended, all else is shown
-new-cut : seen rp 16 21 (take 811 newImage) ≡ shows (newReport (P.refused 2)) newSetRows (newRomRows 0 0 2 [])
-unfolding pastWindow startsWith run trace endOf canRead answer tried triedShown readsOf andThen looked classOf lowAfter highAfter lacking isUtf8 lineOf isRp2350 storageOf portOf hasNul beforeNul judged chunksP textP before fieldsOf wholeOf headerOf headerP E.fieldsOf noExtraInfo extraInfoOf extraInfoP metadataOf metadataP P.fieldsOf noPins pinsOf pinsP romOf judgeRom romP romsP tableP pointedP setP setsP O.setsP walkP romsOf nameP namesP walkNamesP setRow countsOf setRowsAfter romFront nameWords romRow romRows lookP rowP reportOf verdict openP opening newImage
+new-cut : seen rp 16 21 (take 811 newImage) ≡ shows (newReport (P.refusedPins 2)) newSetRows (newRomRows 0 0 2 [])
+unfolding pastWindow startsWith run trace endOf canRead answer tried triedShown readsOf andThen triedReads classOf lowAfter highAfter lacking isUtf8 lineOf isRp2350 storageOf portOf hasNul beforeNul judged chunksP textP before headerFields wholeOf headerOf headerP E.extraInfoFields noExtraInfo extraInfoOf extraInfoP metadataOf metadataP P.pinsFields noPins pinsOf pinsP romOf judgeRom romP romsP tableP pointedP setP setsP O.setsItemP walkP romsOf nameP namesP walkNamesP setRow countsOf setRowsAfter romFront nameWords romRow romRows lookP itemsP reportOf verdict openP opening newImage
 new-cut = refl

@@ -36,8 +36,8 @@ abbrev pub counted : ℕ → Part (List RomSet) → Sets
 counted n w = record { count = n; walk = w }
 
 -- Sets are marked ended, and none is served, where metadata ended.
-unfoldable pub setsP : ℕ → SdrrInfoHeader → Looked → Prog Sets
-setsP base h l =
+unfoldable pub setsItemP : ℕ → SdrrInfoHeader → Looked → Prog Sets
+setsItemP base h l =
     mapP (counted (setCount h l)) (pick (metadataEnded l) (done (stop 2 [])) (walkP base (h .fields) (setCount h l) (setsPointer h l)))
 
 -- ---- the items, in a row
@@ -51,10 +51,10 @@ pub record Items : Type 0 where
   pub names : List Text
   pub pins : PinsItem
 
-abbrev pub Row : Type 0
-Row = Text × (Text × (ExtraInfoItem × (Looked × (Sets × (List Text × PinsItem)))))
+abbrev pub ItemAnswers : Type 0
+ItemAnswers = Text × (Text × (ExtraInfoItem × (Looked × (Sets × (List Text × PinsItem)))))
 
-abbrev pub itemsOf : Row → Items
+abbrev pub itemsOf : ItemAnswers → Items
 itemsOf t =
     record {
       buildDate = t .0;
@@ -67,13 +67,13 @@ itemsOf t =
     }
 
 -- the reads of every item, with the base in force after the header
-unfoldable pub rowP : ℕ → SdrrInfoHeader → Prog Row
-rowP base h =
+unfoldable pub itemsP : ℕ → SdrrInfoHeader → Prog ItemAnswers
+itemsP base h =
     also (textP base (h .«build_date_ptr»)) λ date.
     also (textP base (h .«hw_rev_ptr»)) λ rev.
     also (extraInfoP base (h .«extra_ptr») (h .fields .version)) λ extra.
     also (lookP base h) λ l.
-    also (setsP base h l) λ sets.
+    also (setsItemP base h l) λ sets.
     also (walkNamesP base (sets .walk)) λ names.
     pinsP base (h .«pins_ptr»)
 
@@ -120,7 +120,7 @@ abbrev pub afterHeader : Settings → ℕ → ℕ → HeaderAnswer → Prog Open
 afterHeader s setWords romWords a =
     pick (eqb (a .number) 0)
     (mapP (λ t. verdict setWords romWords (a .header) (itemsOf t))
-    (rowP (baseAfter (s .«flash_base») (s .«cs0_base») (a .header .fields .«stm_line»)) (a .header)))
+    (itemsP (baseAfter (s .«flash_base») (s .«cs0_base») (a .header .fields .«stm_line»)) (a .header)))
     (done (refused (a .number)))
 
 -- the reads of the opening

@@ -1,6 +1,6 @@
 -- What the opening replies: its number and report. A refused opening has fixed values beside its number.
 use Prim.Native.Nat.{ℕ}
-use Rattle.text.specs.Text.{refused}
+use Rattle.text.specs.Text.{refusedText}
 use Rattle.header.specs.Header.{noHeader}
 use Rattle.metadata.specs.declared.MetadataItem.{MetadataItem}
 use Rattle.extra_info.specs.ExtraInfo as extra
@@ -17,20 +17,20 @@ unfoldable pub noReport : SdrrInfo
 noReport =
     record {
       fields = noHeader .fields;
-      «build_date» = refused 0;
-      «hw_rev» = refused 0;
-      «extra_info» = extra.refused 0;
+      «build_date» = refusedText 0;
+      «hw_rev» = refusedText 0;
+      «extra_info» = extra.refusedExtraInfo 0;
       metadata = MetadataItem.NotLookedFor;
       «rom_sets» = record { number = 0; «rom_set_count» = 0; served = 0 };
-      pins = pins.refused 0;
+      pins = pins.refusedPins 0;
     }
 
-abbrev pub refusedWith : ℕ → Opening
-refusedWith n = record { number = n; info = noReport }
+abbrev pub refusedOpening : ℕ → Opening
+refusedOpening n = record { number = n; info = noReport }
 
-unfoldable pub replyOf : Opened → Opening
-replyOf (o.refused n) = refusedWith n
-replyOf (opened r ss names) = record { number = 0; info = r }
+unfoldable pub openingReply : Opened → Opening
+openingReply (o.refused n) = refusedOpening n
+openingReply (opened r ss names) = record { number = 0; info = r }
 
 -- ---- what later calls look at of a report, and where the image stands
 

@@ -10,11 +10,11 @@ use text::Text;
 ghost use mathlib.Core.Path.{_≡_};
 ghost use lib.ListN.{length};
 ghost use Rattle.prog.specs.Prog.{run};
-ghost use Rattle.text.specs.Text.{refused};
+ghost use Rattle.text.specs.Text.{refusedText};
 ghost use Rattle.walk.specs.Names.{walkNamesP};
 ghost use Rattle.rom_rows.specs.Reply as rows;
 ghost use Rattle.fw_parser.specs.Opening.{opening, setRowsLeft, romRowsLeft};
-ghost use Rattle.fw_parser.specs.Reply.{noReport, replyOf, boardOf};
+ghost use Rattle.fw_parser.specs.Reply.{noReport, openingReply, boardOf};
 ghost use Rattle.fw_parser.specs.Code.{walkOf, isShort, itemOf, reportWith};
 
 // Where the image stands: its base, the base for an Rp2350, and the header's offset.
@@ -49,7 +49,7 @@ pub struct Opening {
 }
 
 fn no_text() -> Text
-    ensures { λ r. ⌜ r ≡ refused 0 ⌝ }
+    ensures { λ r. ⌜ r ≡ refusedText 0 ⌝ }
 {
     Text {
         number: 0,
@@ -101,9 +101,9 @@ fn walk_sets(
     set_rows: &mut [u32],
     rom_rows: &mut [u32],
 ) -> u8
-    ensures reply { λ r. ⌜ r ≡ rows.replyOf (walkOf base fields source (now (image .entry))) (length (now («set_rows» .entry))) (length (now («rom_rows» .entry))) .number ⌝ }
-    ensures sets { λ r. ⌜ now («set_rows» .exit) ≡ rows.setRowsLeft (walkOf base fields source (now (image .entry))) (length (now («rom_rows» .entry))) (now («set_rows» .entry)) ⌝ }
-    ensures roms { λ r. ⌜ now («rom_rows» .exit) ≡ rows.romRowsLeft (walkOf base fields source (now (image .entry))) (run (walkNamesP base (walkOf base fields source (now (image .entry)))) (now (image .entry))) (length (now («set_rows» .entry))) (now («rom_rows» .entry)) ⌝ }
+    ensures reply { λ r. ⌜ r ≡ rows.walkReply (walkOf base fields source (now (image .entry))) (length (now («set_rows» .entry))) (length (now («rom_rows» .entry))) .number ⌝ }
+    ensures sets { λ r. ⌜ now («set_rows» .exit) ≡ rows.walkSetRows (walkOf base fields source (now (image .entry))) (length (now («rom_rows» .entry))) (now («set_rows» .entry)) ⌝ }
+    ensures roms { λ r. ⌜ now («rom_rows» .exit) ≡ rows.walkRomRows (walkOf base fields source (now (image .entry))) (run (walkNamesP base (walkOf base fields source (now (image .entry)))) (now (image .entry))) (length (now («set_rows» .entry))) (now («rom_rows» .entry)) ⌝ }
 {
     if source.ended {
         return 2;
@@ -156,7 +156,7 @@ pub fn parse_flash(
     set_rows: &mut [u32],
     rom_rows: &mut [u32],
 ) -> Opening
-    ensures reply { λ r. ⌜ r ≡ replyOf (opening settings (length (now («set_rows» .entry))) (length (now («rom_rows» .entry))) (now (image .entry))) ⌝ }
+    ensures reply { λ r. ⌜ r ≡ openingReply (opening settings (length (now («set_rows» .entry))) (length (now («rom_rows» .entry))) (now (image .entry))) ⌝ }
     ensures sets { λ r. ⌜ now («set_rows» .exit) ≡ setRowsLeft (opening settings (length (now («set_rows» .entry))) (length (now («rom_rows» .entry))) (now (image .entry))) (now («set_rows» .entry)) ⌝ }
     ensures roms { λ r. ⌜ now («rom_rows» .exit) ≡ romRowsLeft (opening settings (length (now («set_rows» .entry))) (length (now («rom_rows» .entry))) (now (image .entry))) (now («rom_rows» .entry)) ⌝ }
 {

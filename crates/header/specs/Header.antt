@@ -17,8 +17,8 @@ use Rattle.header.specs.declared.HeaderAnswer.{HeaderAnswer}
 use Rattle.version.specs.Version.{version, below04, from051, from070}
 
 -- "SDRR"
-abbrev pub magic : List ℕ
-magic = 83 ∷ 68 ∷ 82 ∷ 82 ∷ []
+abbrev pub headerMagic : List ℕ
+headerMagic = 83 ∷ 68 ∷ 82 ∷ 82 ∷ []
 
 -- u16 major 4, minor 6, patch 8, build 10
 abbrev pub versionOf : List ℕ → FirmwareVersion
@@ -26,8 +26,8 @@ versionOf s = version (u16At s 4) (u16At s 6) (u16At s 8) (u16At s 10)
 
 -- commit of eight bytes 16; u16 line 28, storage 30, frequency 32; flags 34..40: overclock, SWD, preload, bootloader, LED, boot logging, MCO;
 -- counting flag 42; boot config 52
-unfoldable pub fieldsOf : List ℕ → SdrrInfoFields
-fieldsOf s =
+unfoldable pub headerFields : List ℕ → SdrrInfoFields
+headerFields s =
     record {
       version = versionOf s;
       commit = eightAt s 16;
@@ -53,7 +53,7 @@ extraPointer s = pick (below04 (versionOf s)) 4294967295 (u32At s 56)
 unfoldable pub wholeOf : List ℕ → SdrrInfoHeader
 wholeOf s =
     record {
-      fields = fieldsOf s;
+      fields = headerFields s;
       «build_date_ptr» = u32At s 12;
       «hw_rev_ptr» = u32At s 24;
       «rom_set_count» = u8At s 41;
@@ -90,22 +90,22 @@ noHeader =
       «extra_ptr» = 0;
     }
 
-abbrev pub refused : ℕ → HeaderAnswer
-refused n = record { number = n; header = noHeader }
+abbrev pub refusedHeader : ℕ → HeaderAnswer
+refusedHeader n = record { number = n; header = noHeader }
 
 -- 2: fewer than 64 bytes. 10: magic. 11: line above 5. 12: storage above 7. 13: version at or past 0.7.0.
 unfoldable pub headerOf : List ℕ → HeaderAnswer
 headerOf s =
-    pick (ltb (length s) 64) (refused 2)
-    (pick (not (startsWith s magic)) (refused 10)
-    (pick (ltb 5 (u16At s 28)) (refused 11)
-    (pick (ltb 7 (u16At s 30)) (refused 12)
-    (pick (from070 (versionOf s)) (refused 13)
+    pick (ltb (length s) 64) (refusedHeader 2)
+    (pick (not (startsWith s headerMagic)) (refusedHeader 10)
+    (pick (ltb 5 (u16At s 28)) (refusedHeader 11)
+    (pick (ltb 7 (u16At s 30)) (refusedHeader 12)
+    (pick (from070 (versionOf s)) (refusedHeader 13)
     (record { number = 0; header = wholeOf s })))))
 
 -- The header is read at flash base plus info offset, with the flash base in force.
 unfoldable pub headerP : ℕ → ℕ → Prog HeaderAnswer
-headerP flashBase infoOffset = fetch flashBase (flashBase + infoOffset) 64 (refused 2) λ s. done (headerOf s)
+headerP flashBase infoOffset = fetch flashBase (flashBase + infoOffset) 64 (refusedHeader 2) λ s. done (headerOf s)
 
 -- "ROM sets and ROM infos": filenames from 0.5.1, or boot logging on
 abbrev pub hasFilenames : SdrrInfoFields → Bool

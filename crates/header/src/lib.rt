@@ -6,7 +6,7 @@ ghost use mathlib.Core.Path.{_≡_};
 ghost use Prim.Native.Nat.{_≤_};
 ghost use lib.ListN.{length};
 ghost use Rattle.prog.specs.Prog.{run};
-ghost use Rattle.header.specs.Header.{versionOf, fieldsOf, extraPointer, wholeOf, noHeader, refused, headerOf, headerP, hasFilenames};
+ghost use Rattle.header.specs.Header.{versionOf, headerFields, extraPointer, wholeOf, noHeader, refusedHeader, headerOf, headerP, hasFilenames};
 
 const HEADER_SIZE: usize = 64;
 
@@ -68,7 +68,7 @@ fn read_version(s: &[u8]) -> FirmwareVersion
 
 fn read_fields(s: &[u8]) -> SdrrInfoFields
     requires { ⌜ 64 ≤ length (now s) ⌝ }
-    ensures { λ r. ⌜ r ≡ fieldsOf (now (s .entry)) ⌝ }
+    ensures { λ r. ⌜ r ≡ headerFields (now (s .entry)) ⌝ }
 {
     SdrrInfoFields {
         version: read_version(s),
@@ -140,7 +140,7 @@ pub fn no_fields() -> SdrrInfoFields
 }
 
 fn refuse(number: u8) -> HeaderAnswer
-    ensures { λ r. ⌜ r ≡ refused number ⌝ }
+    ensures { λ r. ⌜ r ≡ refusedHeader number ⌝ }
 {
     let header = SdrrInfoHeader {
         fields: no_fields(),

@@ -87,14 +87,14 @@ pub record Reply : Type 0 where
   pub bytes : List ℕ
   pub count : ℕ
 
-abbrev pub replyOf : ℕ → RomRead → Bytes → Reply
-replyOf count r b = record { number = b .number; bytes = b .bytes; count = pick (eqb (b .number) 0) (count + lengthOf r) count }
+abbrev pub readReply : ℕ → RomRead → Bytes → Reply
+readReply count r b = record { number = b .number; bytes = b .bytes; count = pick (eqb (b .number) 0) (count + lengthOf r) count }
 
 -- 1: the window check, before anything else
 unfoldable pub romRead : (flashBase cs0Base : ℕ) → Lent → ℕ → RomRead → List ℕ → Reply
 romRead flashBase cs0Base l count r x =
     pick (beyondWindow flashBase cs0Base x) (record { number = 1; bytes = []; count = count })
-    (replyOf count r (run (readP (baseAfter flashBase cs0Base (l .line)) l count r) x))
+    (readReply count r (run (readP (baseAfter flashBase cs0Base (l .line)) l count r) x))
 
 -- what the lent buffer holds afterwards: a refusal changes no byte
 abbrev pub bufferLeft : Reply → List ℕ → List ℕ

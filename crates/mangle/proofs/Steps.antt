@@ -13,7 +13,7 @@ use lib.Seq.{drop-cons, take-all, take-suc-set}
 use borrow.Author.Tests.{lt-ltb, le-ltb}
 use Rattle.base.specs.Choice.{pick}
 use Rattle.mangle.specs.declared.Placed.{Placed}
-use Rattle.mangle.specs.Bits.{taken, gather}
+use Rattle.mangle.specs.Bits.{takenBit, gather}
 use Rattle.mangle.specs.Demangle.{allBelow}
 use Rattle.mangle.specs.PinMap.{off, controlOff}
 use Rattle.mangle.specs.Laws.Raise.{raisedBy}
@@ -33,10 +33,10 @@ horner b g i = rw (add-mul, pow-suc, mul-assoc 2 g, ← mul-assoc g (2 ^ i) 2) (
 
 -- one more bit gathered
 pub gather-on : (es : List ℕ) (x r i : ℕ) → i < length es
-    → r + taken x (getD es i 0) * 2 ^ i + gather (drop (i + 1) es) x * 2 ^ (i + 1) ≡ r + gather (drop i es) x * 2 ^ i
+    → r + takenBit x (getD es i 0) * 2 ^ i + gather (drop (i + 1) es) x * 2 ^ (i + 1) ≡ r + gather (drop i es) x * 2 ^ i
 unfolding gather
 gather-on es x r i h =
-    rw (add-one i, drop-cons es i 0) (let e = horner (taken x (getD es i 0)) (gather (drop (suc i) es) x) i in omega arith)
+    rw (add-one i, drop-cons es i 0) (let e = horner (takenBit x (getD es i 0)) (gather (drop (suc i) es) x) i in omega arith)
 
 pub gather-end : (es : List ℕ) (x r i : ℕ) → length es ≤ i → r + gather (drop i es) x * 2 ^ i ≡ r
 unfolding gather

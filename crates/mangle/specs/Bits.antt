@@ -9,10 +9,10 @@ unfoldable pub bitAt : ℕ → ℕ → ℕ
 bitAt x i = x / 2 ^ i % 2
 
 -- what entry e takes from the word x: its bit e, or low where e is none
-unfoldable pub taken : ℕ → ℕ → ℕ
-taken x e = pick (isBit e) (bitAt x e) 0
+unfoldable pub takenBit : ℕ → ℕ → ℕ
+takenBit x e = pick (isBit e) (bitAt x e) 0
 
 -- the number whose bit p is what entry p takes
 unfoldable pub gather : List ℕ → ℕ → ℕ
 gather [] x = 0
-gather (e ∷ es) x = taken x e + 2 * gather es x
+gather (e ∷ es) x = takenBit x e + 2 * gather es x

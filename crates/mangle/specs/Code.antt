@@ -8,8 +8,8 @@ use Rattle.base.specs.Choice.{pick}
 use Rattle.types.specs.declared.SdrrRomType.{SdrrRomType}
 use Rattle.mangle.specs.declared.Mangled.{Mangled}
 use Rattle.mangle.specs.declared.Placed.{Placed}
-use Rattle.mangle.specs.Bits.{bitAt, taken}
-use Rattle.mangle.specs.Mangle.{mangleNumber, answer}
+use Rattle.mangle.specs.Bits.{bitAt, takenBit}
+use Rattle.mangle.specs.Mangle.{mangleNumber, mangledTo}
 use Rattle.mangle.specs.PinMap.{off, controlOff}
 use Rattle.mangle.specs.Rules.{isBit, rulesOf, controlBits, several}
 
@@ -20,7 +20,7 @@ onPin v p b = pick (ltb p 16) (v - bitAt v p * 2 ^ p + b * 2 ^ p) v
 -- bits i, i + 1, .. of the word w, each on its pin
 unfoldable pub onPins : List ℕ → (i w v : ℕ) → ℕ
 onPins [] i w v = v
-onPins (p ∷ ps) i w v = onPins ps (suc i) w (onPin v p (taken w i))
+onPins (p ∷ ps) i w v = onPins ps (suc i) w (onPin v p (takenBit w i))
 
 -- a word with every input bit high: the pins that are high under it are those that take a bit
 abbrev pub allHigh : ℕ
@@ -28,20 +28,20 @@ allHigh = 4294967295
 
 -- one bit more, under a word and under the word of ones
 abbrev pub stepPin : Placed → (p w i : ℕ) → Placed
-stepPin s p w i = record { value = onPin (s .value) p (taken w i); mapped = onPin (s .mapped) p (taken allHigh i) }
+stepPin s p w i = record { value = onPin (s .value) p (takenBit w i); mapped = onPin (s .mapped) p (takenBit allHigh i) }
 
 -- the address pins under a word, and those that take a bit
 abbrev pub placed : List ℕ → ℕ → Placed
 placed ps w = record { value = onPins ps 0 w 0; mapped = onPins ps 0 allHigh 0 }
 
 abbrev pub isHighPin : (v p : ℕ) → Bool
-isHighPin v p = eqb (taken v p) 1
+isHighPin v p = eqb (takenBit v p) 1
 
 unfoldable pub onX : (v x1 x2 w : ℕ) → ℕ
-onX v x1 x2 w = onPin (onPin v x1 (taken w 14)) x2 (taken w 15)
+onX v x1 x2 w = onPin (onPin v x1 (takenBit w 14)) x2 (takenBit w 15)
 
 unfoldable pub onControl : (v p b w : ℕ) → ℕ
-onControl v p b w = pick (isBit b) (onPin v p (taken w b)) v
+onControl v p b w = pick (isBit b) (onPin v p (takenBit w b)) v
 
 unfoldable pub onControls : List ℕ → List ℕ → (w v : ℕ) → ℕ
 onControls [] bs w v = v
@@ -63,4 +63,4 @@ wholeWord v x1 x2 controls count type w = onControls controls (controlBits type)
 
 unfoldable pub mangleWord : Placed → (x1 x2 : ℕ) → List ℕ → ℕ → SdrrRomType → (address w : ℕ) → Mangled
 mangleWord a x1 x2 controls count type address w =
-    answer (mangleNumber (wordNumber (a .mapped) x1 x2 controls count type) type address) (wholeWord (a .value) x1 x2 controls count type w)
+    mangledTo (mangleNumber (wordNumber (a .mapped) x1 x2 controls count type) type address) (wholeWord (a .value) x1 x2 controls count type w)

@@ -10,7 +10,7 @@ use Rattle.types.specs.declared.SdrrRomType.{SdrrRomType}
 use Rattle.types.specs.declared.SdrrCsSet.{SdrrCsSet}
 use Rattle.pins.specs.declared.SdrrPins.{SdrrPins}
 use Rattle.mangle.specs.BaseZero.{leastOf, lowered, leastPin, loweredBy, baseZero}
-use Rattle.mangle.specs.Bits.{bitAt, taken, gather}
+use Rattle.mangle.specs.Bits.{bitAt, takenBit, gather}
 use Rattle.mangle.specs.Demangle.{allBelow, demangle}
 use Rattle.mangle.specs.Mangle.{raised, inputWord, mangleNumber, mangleBy, mangleOf, mangleCore}
 use Rattle.mangle.specs.PinMap.{withAddress, withX, controlOff, withControl, withControls, mapNumber, wholeMap, mapBy, mapOf, pinMap}
@@ -18,7 +18,7 @@ use Rattle.mangle.specs.Rules.{rulesOf, drives}
 
 -- data pins 7..0, byte 1
 pub D1 : demangle (7 ∷ 6 ∷ 5 ∷ 4 ∷ 3 ∷ 2 ∷ 1 ∷ 0 ∷ []) 1 ≡ record { number = 0; value = 128 }
-unfolding demangle allBelow gather taken bitAt
+unfolding demangle allBelow gather takenBit bitAt
 D1 = refl
 
 -- a pin 8
@@ -79,12 +79,12 @@ given c1 c2 = record { cs1 = c1; cs2 = c2; cs3 = Level.NotGiven; x1 = Level.NotG
 
 -- address 5, CS1 high
 pub M1 : mangleCore (board2364 0) 1 SdrrRomType.Rom2364 5 (given Level.High Level.NotGiven) ≡ record { number = 0; value = 8197 }
-unfolding mangleCore mangleOf mangleBy mangleNumber inputWord raised drives rulesOf gather taken bitAt isHigh romTypeNumber pinMap mapOf mapBy mapNumber wholeMap withX withAddress controlOff withControl withControls baseZero loweredBy leastPin leastOf lowered
+unfolding mangleCore mangleOf mangleBy mangleNumber inputWord raised drives rulesOf gather takenBit bitAt isHigh romTypeNumber pinMap mapOf mapBy mapNumber wholeMap withX withAddress controlOff withControl withControls baseZero loweredBy leastPin leastOf lowered
 M1 = refl
 
 -- all those pins raised by 8
 pub M2 : mangleCore (board2364 8) 1 SdrrRomType.Rom2364 5 (given Level.High Level.NotGiven) ≡ record { number = 0; value = 8197 }
-unfolding mangleCore mangleOf mangleBy mangleNumber inputWord raised drives rulesOf gather taken bitAt isHigh romTypeNumber pinMap mapOf mapBy mapNumber wholeMap withX withAddress controlOff withControl withControls baseZero loweredBy leastPin leastOf lowered
+unfolding mangleCore mangleOf mangleBy mangleNumber inputWord raised drives rulesOf gather takenBit bitAt isHigh romTypeNumber pinMap mapOf mapBy mapNumber wholeMap withX withAddress controlOff withControl withControls baseZero loweredBy leastPin leastOf lowered
 M2 = refl
 
 -- address 8192
@@ -94,5 +94,5 @@ M3 = refl
 
 -- address pins 0..10, CS2 11, CS3 12, CS1 13: address 0, CS2 high alone
 pub M4 : mangleCore (board (eleven ++ replicate 5 255) 13 11 12) 1 SdrrRomType.Rom2316 0 (given Level.NotGiven Level.High) ≡ record { number = 0; value = 4096 }
-unfolding mangleCore mangleOf mangleBy mangleNumber inputWord raised drives rulesOf gather taken bitAt isHigh romTypeNumber pinMap mapOf mapBy mapNumber wholeMap withX withAddress controlOff withControl withControls baseZero loweredBy leastPin leastOf lowered
+unfolding mangleCore mangleOf mangleBy mangleNumber inputWord raised drives rulesOf gather takenBit bitAt isHigh romTypeNumber pinMap mapOf mapBy mapNumber wholeMap withX withAddress controlOff withControl withControls baseZero loweredBy leastPin leastOf lowered
 M4 = refl

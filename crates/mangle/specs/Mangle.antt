@@ -45,13 +45,13 @@ unfoldable pub mangleNumber : ℕ → SdrrRomType → ℕ → ℕ
 mangleNumber n type address = pick (not (eqb n 0)) n (pick (aboveMask type address) 77 (pick (is28C16 type) 78 0))
 
 -- the value is 0 where the number is not
-abbrev pub answer : ℕ → ℕ → Mangled
-answer n v = record { number = n; value = pick (eqb n 0) v 0 }
+abbrev pub mangledTo : ℕ → ℕ → Mangled
+mangledTo n v = record { number = n; value = pick (eqb n 0) v 0 }
 
 -- an address with its levels under a map
 unfoldable pub mangleBy : PinMap → ℕ → SdrrRomType → ℕ → List Bool → Mangled
 mangleBy m count type address ls =
-    answer (mangleNumber (m .number) type address) (place (m .map) (inputWord type count ls address))
+    mangledTo (mangleNumber (m .number) type address) (place (m .map) (inputWord type count ls address))
 
 -- the type is that of the first ROM; with count 0 there is none, and 74 comes whatever the type is
 unfoldable pub mangleOf : SdrrPins → ℕ → SdrrRomType → ℕ → List Bool → Mangled

@@ -4,7 +4,7 @@ ghost use Prim.Native.Nat.{_+_, _*_, _≤_, _<_, _^_};
 ghost use lib.Bits.{bitOr};
 ghost use lib.ListN.{length};
 ghost use Rattle.base.specs.Choice.{pick};
-ghost use Rattle.mangle.specs.Bits.{taken, gather};
+ghost use Rattle.mangle.specs.Bits.{takenBit, gather};
 ghost use Rattle.mangle.specs.Laws.Raise.{raisedBy};
 
 pub(crate) fn pick_num(c: bool, a: u8, b: u8) -> u8
@@ -15,7 +15,7 @@ pub(crate) fn pick_num(c: bool, a: u8, b: u8) -> u8
 
 // The bit of the word that an entry takes.
 pub(crate) fn bit_of(x: u32, e: u8) -> u32
-    ensures { λ r. ⌜ r ≡ taken x e ⌝ }
+    ensures { λ r. ⌜ r ≡ takenBit x e ⌝ }
 {
     if e < 32 { (x >> e) & 1 } else { 0 }
 }

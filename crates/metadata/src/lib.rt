@@ -1,7 +1,7 @@
 // Metadata (parsing.rs `read_one_rom_metadata_header_info`, judged in lib.rs `parse_flash`).
 ghost use mathlib.Core.Path.{_≡_};
 ghost use Rattle.prog.specs.Prog.{run};
-ghost use Rattle.metadata.specs.Metadata.{refused, metadataOf, metadataP};
+ghost use Rattle.metadata.specs.Metadata.{refusedMetadata, metadataOf, metadataP};
 
 const METADATA_SIZE: usize = 256;
 
@@ -19,7 +19,7 @@ pub enum MetadataItem {
 }
 
 fn refuse(number: u8) -> MetadataAnswer
-    ensures { λ r. ⌜ r ≡ refused number ⌝ }
+    ensures { λ r. ⌜ r ≡ refusedMetadata number ⌝ }
 {
     MetadataAnswer {
         number,

@@ -24,7 +24,7 @@ use Rattle.rom_reads.specs.declared.ByteRead.{ByteRead}
 use Rattle.rom_reads.specs.Calls.{lentBy, countedOf, byteOf}
 use Rattle.fw_parser.specs.declared.Opening.{Opening}
 use Rattle.fw_parser.specs.Opening.{Opened}
-use Rattle.fw_parser.specs.Reply.{replyOf}
+use Rattle.fw_parser.specs.Reply.{openingReply}
 use Rattle.c_report.specs.declared.OneromReport.{OneromReport}
 use Rattle.c_report.specs.Report.{reportOut, boardIn}
 use Rattle.c_board.specs.Board.{levelsFrom, pinsFrom, pinsItem, addressFrom}
@@ -53,7 +53,7 @@ demangled number stored d p i r e f h = h ∙ ap (λ (j : PinsItem). demangleByt
 
 -- ---- the opening
 
-pub opened-out : (o : Opening) (w : Opened) (r : OneromReport) → o ≡ replyOf w → r ≡ reportOut (o .info) → _≡_ {A = OneromOpening} (record { number = o .number; report = r }) (openingOut w)
+pub opened-out : (o : Opening) (w : Opened) (r : OneromReport) → o ≡ openingReply w → r ≡ reportOut (o .info) → _≡_ {A = OneromOpening} (record { number = o .number; report = r }) (openingOut w)
 opened-out o w r e h = ap (λ (t : OneromReport). record { number = o .number; report = t }) h ∙ ap handedOut e
 
 -- ---- size and same set: the reply and the lent word

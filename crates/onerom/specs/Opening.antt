@@ -3,7 +3,7 @@ use Prim.Native.Nat.{ℕ}
 use mathlib.Core.List.{List}
 use Rattle.fw_parser.specs.declared.Opening.{Opening}
 use Rattle.fw_parser.specs.Opening.{Opened, opening}
-use Rattle.fw_parser.specs.Reply.{replyOf}
+use Rattle.fw_parser.specs.Reply.{openingReply}
 use Rattle.c_report.specs.Report.{reportOut}
 use Rattle.onerom.specs.declared.opening.OneromOpening.{OneromOpening}
 
@@ -16,4 +16,4 @@ abbrev pub handedOut : Opening → OneromOpening
 handedOut o = record { number = o .number; report = reportOut (o .info) }
 
 abbrev pub openingOut : Opened → OneromOpening
-openingOut o = handedOut (replyOf o)
+openingOut o = handedOut (openingReply o)

@@ -16,8 +16,8 @@ abbrev pub eightZeros : List ℕ
 eightZeros = 0 ∷ 0 ∷ 0 ∷ 0 ∷ 0 ∷ 0 ∷ 0 ∷ 0 ∷ []
 
 -- Where each field stands in the record. The second arrays count only where `extended` is 1; otherwise they are zeros.
-unfoldable pub fieldsOf : List ℕ → SdrrPins
-fieldsOf s =
+unfoldable pub pinsFields : List ℕ → SdrrPins
+pinsFields s =
     record {
       «data_port» = portOf (u8At s 0);
       «addr_port» = portOf (u8At s 1);
@@ -92,8 +92,8 @@ noPins =
       addr2 = eightZeros ++ eightZeros;
     }
 
-abbrev pub refused : ℕ → PinsItem
-refused n = record { number = n; pins = noPins }
+abbrev pub refusedPins : ℕ → PinsItem
+refusedPins n = record { number = n; pins = noPins }
 
 -- each port is 0..5
 abbrev pub unknownPort : List ℕ → Bool
@@ -102,8 +102,8 @@ unknownPort s = ltb 5 (u8At s 0) || (ltb 5 (u8At s 1) || (ltb 5 (u8At s 2) || (l
 -- the record from its address on; 2: ended. 50: port.
 unfoldable pub pinsOf : List ℕ → PinsItem
 pinsOf s =
-    pick (ltb (length s) 88) (refused 2) (pick (unknownPort s) (refused 50) (record { number = 0; pins = fieldsOf s }))
+    pick (ltb (length s) 88) (refusedPins 2) (pick (unknownPort s) (refusedPins 50) (record { number = 0; pins = pinsFields s }))
 
 -- 3: below base. 2: ended.
 unfoldable pub pinsP : ℕ → ℕ → Prog PinsItem
-pinsP base pointer = recordP base pointer 88 refused pinsOf
+pinsP base pointer = recordP base pointer 88 refusedPins pinsOf

@@ -8,7 +8,7 @@ ghost use lib.ListN.{length};
 ghost use Rattle.base.specs.Choice.{pick};
 ghost use Rattle.le.specs.Le.{u8At, eightAt, sixteenAt};
 ghost use Rattle.prog.specs.Prog.{run};
-ghost use Rattle.pins.specs.Pins.{eightZeros, fieldsOf, noPins, refused, unknownPort, pinsOf, pinsP};
+ghost use Rattle.pins.specs.Pins.{eightZeros, pinsFields, noPins, refusedPins, unknownPort, pinsOf, pinsP};
 
 const PINS_SIZE: usize = 88;
 
@@ -96,7 +96,7 @@ fn no_pins() -> SdrrPins
 }
 
 pub fn refuse(number: u8) -> PinsItem
-    ensures { λ r. ⌜ r ≡ refused number ⌝ }
+    ensures { λ r. ⌜ r ≡ refusedPins number ⌝ }
 {
     let pins = no_pins();
     PinsItem { number, pins }
@@ -145,7 +145,7 @@ fn unknown_port(s: &[u8]) -> bool
 
 fn read_fields(s: &[u8]) -> SdrrPins
     requires { ⌜ 88 ≤ length (now s) ⌝ }
-    ensures { λ r. ⌜ r ≡ fieldsOf (now (s .entry)) ⌝ }
+    ensures { λ r. ⌜ r ≡ pinsFields (now (s .entry)) ⌝ }
 {
     SdrrPins {
         data_port: types::port_of(s[0]),

@@ -4,7 +4,7 @@ use mathlib.Core.Path.{_≡_, refl}
 use mathlib.Core.Bool.{true, false}
 use mathlib.Core.List.{List, [], _∷_}
 use Rattle.window.specs.Window.{canRead}
-use Rattle.prog.specs.Prog.{Prog, done, fetch, readsOf, aside, answer, run, trace, looked, tried, triedShown, endOf, reach}
+use Rattle.prog.specs.Prog.{Prog, done, fetch, readsOf, aside, answer, run, trace, triedReads, tried, triedShown, endOf, reach}
 
 -- two bytes at base 100
 abbrev pair : List ℕ
@@ -56,7 +56,7 @@ unfolding three trace endOf answer canRead
 three-reach = refl
 
 three-tried : tried three pair ≡ 3
-unfolding three tried looked readsOf answer canRead
+unfolding three tried triedReads readsOf answer canRead
 three-tried = refl
 
 three-shown : triedShown three pair ≡ 2

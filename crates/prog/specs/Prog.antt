@@ -103,14 +103,14 @@ trace (read base a n k) x = taken (answer x base a n) (record { offset = a - bas
 trace (unshown r p) x = trace p x
 
 -- how many reads are tried, failed ones too
-unfoldable pub looked : Reads → List ℕ → ℕ
-looked noMore x = 0
-looked (look base a n k) x = suc (looked (k (answer x base a n)) x)
+unfoldable pub triedReads : Reads → List ℕ → ℕ
+triedReads noMore x = 0
+triedReads (look base a n k) x = suc (triedReads (k (answer x base a n)) x)
 
 unfoldable pub tried : {A : Type 0} → Prog A → List ℕ → ℕ
 tried (done a) x = 0
 tried (read base a n k) x = suc (tried (k (answer x base a n)) x)
-tried (unshown r p) x = looked r x + tried p x
+tried (unshown r p) x = triedReads r x + tried p x
 
 -- how many shown reads are tried, failed ones too
 unfoldable pub triedShown : {A : Type 0} → Prog A → List ℕ → ℕ

@@ -22,7 +22,7 @@ use Rattle.walk.specs.Laws.Rows.{set-rows-length}
 use Rattle.walk.specs.Code.Passes.{setsAt}
 use Rattle.walk.specs.Laws.Passes.{sets-length}
 use Rattle.walk.specs.Code.Judged.{judgedOf, walk-found}
-use Rattle.rom_rows.specs.Reply.{refusedWith, replyOf, setRowsLeft, romRowsLeft}
+use Rattle.rom_rows.specs.Reply.{refusedWalk, walkReply, walkSetRows, walkRomRows}
 use Rattle.rom_rows.specs.Code.{namedRows, rows-named, named-length, rowsFrom, rows-from}
 
 -- rows put in at the front: the words, and then what stood there
@@ -31,24 +31,24 @@ at-front l ws h = sets-eq ws l 0 (rw zero-add h) ∙ rw zero-add
 
 -- a reply with both rows, as the walk w and its names leave them
 pub record Leaves (w : Part (List RomSet)) (names : List Text) (ls lr : List ℕ) (r : Walked) (s t : List ℕ) : Type 0 where
-  pub reply : r ≡ replyOf w (length ls) (length lr)
-  pub set-rows : s ≡ setRowsLeft w (length lr) ls
-  pub rom-rows : t ≡ romRowsLeft w names (length ls) lr
+  pub reply : r ≡ walkReply w (length ls) (length lr)
+  pub set-rows : s ≡ walkSetRows w (length lr) ls
+  pub rom-rows : t ≡ walkRomRows w names (length ls) lr
 
 module _ {names : List Text} (ls lr : List ℕ) where
   refused : (w : Part (List RomSet)) (r : Walked) → r ≡ judgedOf w → (r .number ≡ 0 → ⊥) → Leaves w names ls lr r ls lr
-  unfolding judgedOf replyOf setRowsLeft romRowsLeft
+  unfolding judgedOf walkReply walkSetRows walkRomRows
   refused (stop n passed) r e h = record { reply = e; set-rows = refl; rom-rows = refl }
   refused (found ss) r e h = absurd (h (ap (λ (w : Walked). w .number) e))
 
   module _ (ss : List RomSet) where
-    short-sets : length ls < setWidth * length ss → Leaves (found ss) names ls lr (refusedWith 44) ls lr
-    unfolding replyOf setRowsLeft romRowsLeft
+    short-sets : length ls < setWidth * length ss → Leaves (found ss) names ls lr (refusedWalk 44) ls lr
+    unfolding walkReply walkSetRows walkRomRows
     short-sets h = let e = lt-ltb (length ls) (setWidth * length ss) h in record { reply = rw e; set-rows = rw e; rom-rows = rw e }
 
     module _ (h : setWidth * length ss ≤ length ls) where
-      short-roms : length lr < romWidth * length (romsOf ss) → Leaves (found ss) names ls lr (refusedWith 45) ls lr
-      unfolding replyOf setRowsLeft romRowsLeft
+      short-roms : length lr < romWidth * length (romsOf ss) → Leaves (found ss) names ls lr (refusedWalk 45) ls lr
+      unfolding walkReply walkSetRows walkRomRows
       short-roms i =
           let e = le-ltb (length ls) (setWidth * length ss) h in
           let f = lt-ltb (length lr) (romWidth * length (romsOf ss)) i in
@@ -56,7 +56,7 @@ module _ {names : List Text} (ls lr : List ℕ) where
 
       written : romWidth * length (romsOf ss) ≤ length lr
           → Leaves (found ss) names ls lr (record { number = 0; «rom_count» = length (romsOf ss) }) (overwritten (setRows ss) ls) (overwritten (romRows (romsOf ss) names) lr)
-      unfolding replyOf setRowsLeft romRowsLeft
+      unfolding walkReply walkSetRows walkRomRows
       written i =
           let e = le-ltb (length ls) (setWidth * length ss) h in
           let f = le-ltb (length lr) (romWidth * length (romsOf ss)) i in
@@ -94,11 +94,11 @@ module _ (x : List ℕ) (base : ℕ) (f : SdrrInfoFields) (count pointer : ℕ) 
     many : length ss ≡ count
     many = sets-length x base (hasFilenames f) (from060 (f .version)) pointer count
 
-    pub left-44 : length ls < setWidth * count → Leaving walk (refusedWith 44) ls lr
+    pub left-44 : length ls < setWidth * count → Leaving walk (refusedWalk 44) ls lr
     left-44 h = as-found _ _ _ (short-sets ls lr ss (rw many h))
 
     module _ (h : setWidth * count ≤ length ls) where
-      pub left-45 : length lr < romWidth * r .«rom_count» → Leaving walk (refusedWith 45) ls lr
+      pub left-45 : length lr < romWidth * r .«rom_count» → Leaving walk (refusedWalk 45) ls lr
       left-45 i = as-found _ _ _ (short-roms ls lr ss (rw many h) (rw counted at i))
 
       module _ (i : romWidth * r .«rom_count» ≤ length lr) (filenames long : Bool) (a : filenames ≡ hasFilenames f) (b : long ≡ from060 (f .version)) where

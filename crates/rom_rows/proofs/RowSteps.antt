@@ -17,12 +17,12 @@ use Rattle.prog.specs.Prog.{run}
 use Rattle.prog.specs.Laws.Run.{run-done}
 use Rattle.rows.specs.LentRows.{setWidth, romWidth}
 use Rattle.text.specs.declared.Text.{Text}
-use Rattle.text.specs.Text.{refused, textP}
+use Rattle.text.specs.Text.{refusedText, textP}
 use Rattle.walk.specs.Walk.{noName, nameAt, Rom, RomSet, romOf, romsOf}
 use Rattle.walk.specs.Names.{nameP}
 use Rattle.set_header.specs.SetHeader.{infoPointer, strideOf}
 use Rattle.walk.specs.Code.Passes.{romAt, romsAt, setOf, setAt, after, setsAt}
-use Rattle.rom_rows.specs.Code.{setWords, romWords, set-words, rom-words, namedRow, namedRows, named-append, named-row-length, named-length, rowsFrom}
+use Rattle.rom_rows.specs.Code.{setRowWords, romRowWords, set-words, rom-words, namedRow, namedRows, named-append, named-row-length, named-length, rowsFrom}
 use Rattle.walk.specs.Laws.Passes.{roms-length}
 
 -- ---- words put in one after the other
@@ -53,12 +53,12 @@ module _ (x : List ℕ) (base : ℕ) (filenames : Bool) (s : List ℕ) (p : ℕ)
   unfolding nameP
   name-there e t f = rw (named, e) f
 
-  pub name-missing : b ≡ false → refused 1 ≡ run (nameP base (romOf base filenames s .name)) x
+  pub name-missing : b ≡ false → refusedText 1 ≡ run (nameP base (romOf base filenames s .name)) x
   unfolding nameP
-  name-missing e = rw (named, e) (sym (run-done x (refused 1)))
+  name-missing e = rw (named, e) (sym (run-done x (refusedText 1)))
 
 pub row-named : (x : List ℕ) (base : ℕ) (filenames : Bool) (entry p : ℕ) → p ≡ infoPointer x base entry → (s : List ℕ) → s ≡ onFrom x base p
-    → (t : Text) → t ≡ run (nameP base (romOf base filenames s .name)) x → (r : List ℕ) → r ≡ romWords s t → r ≡ namedRow x base (romAt x base filenames entry)
+    → (t : Text) → t ≡ run (nameP base (romOf base filenames s .name)) x → (r : List ℕ) → r ≡ romRowWords s t → r ≡ namedRow x base (romAt x base filenames entry)
 unfolding namedRow romAt
 row-named x base filenames entry p v s w t f r g = rw (← v, ← w, ← f) (g ∙ sym (rom-words base filenames s t))
 
@@ -100,11 +100,11 @@ module _ (x : List ℕ) (base : ℕ) (filenames long : Bool) (l : List ℕ) (at 
   unfolding namedRows romsOf setsAt
   all-written e = rw e
 
-set-words-length : (first : ℕ) (s : List ℕ) → length (setWords first s) ≡ setWidth
-unfolding setWords
+set-words-length : (first : ℕ) (s : List ℕ) → length (setRowWords first s) ≡ setWidth
+unfolding setRowWords
 set-words-length first s = refl
 
-rows-cons : (first : ℕ) (s : List ℕ) (roms : List Rom) (ss : List RomSet) → rowsFrom first (setOf s roms ∷ ss) ≡ setWords first s ++ rowsFrom (first + u8At s 12) ss
+rows-cons : (first : ℕ) (s : List ℕ) (roms : List Rom) (ss : List RomSet) → rowsFrom first (setOf s roms ∷ ss) ≡ setRowWords first s ++ rowsFrom (first + u8At s 12) ss
 unfolding rowsFrom setOf
 rows-cons first s roms ss = ap (λ (l : List ℕ). l ++ rowsFrom (first + u8At s 12) ss) (set-words first s roms)
 
@@ -120,7 +120,7 @@ module _ (x : List ℕ) (base : ℕ) (filenames long : Bool) (address left : ℕ
       go zero i = absurd (i refl)
       go (suc k) i = rw sub-one
 
-  pub sets-write : (l : List ℕ) (at first : ℕ) (r k : List ℕ) → r ≡ setWords first s → k ≡ sets l at r
+  pub sets-write : (l : List ℕ) (at first : ℕ) (r k : List ℕ) → r ≡ setRowWords first s → k ≡ sets l at r
       → sets k (at + setWidth) (rowsFrom (first + n) (setsAt x base filenames long (address + d) (left - 1)))
       ≡ sets l at (rowsFrom first (setsAt x base filenames long address left))
   sets-write l at first r k i j =

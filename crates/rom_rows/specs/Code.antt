@@ -20,19 +20,19 @@ use Rattle.set_header.specs.SetHeader.{configOf, overridesOf}
 use Rattle.walk.specs.Code.Passes.{setOf}
 
 -- the words of a set's row and of a ROM's, from the record's own bytes
-unfoldable pub setWords : ℕ → List ℕ → List ℕ
-setWords first s =
+unfoldable pub setRowWords : ℕ → List ℕ → List ℕ
+setRowWords first s =
     u32At s 0 ∷ u32At s 4 ∷ first ∷ u8At s 12 ∷ u8At s 13 ∷ u8At s 14 ∷ configOf s ∷ overridesOf s ∷ []
 
-unfoldable pub romWords : List ℕ → Text → List ℕ
-romWords s t = u8At s 0 ∷ u8At s 1 ∷ u8At s 2 ∷ u8At s 3 ∷ t .offset ∷ t .length ∷ t .number ∷ []
+unfoldable pub romRowWords : List ℕ → Text → List ℕ
+romRowWords s t = u8At s 0 ∷ u8At s 1 ∷ u8At s 2 ∷ u8At s 3 ∷ t .offset ∷ t .length ∷ t .number ∷ []
 
-pub set-words : (first : ℕ) (s : List ℕ) (roms : List Rom) → setRow first (setOf s roms) ≡ setWords first s
-unfolding setRow setOf setWords
+pub set-words : (first : ℕ) (s : List ℕ) (roms : List Rom) → setRow first (setOf s roms) ≡ setRowWords first s
+unfolding setRow setOf setRowWords
 set-words first s roms = refl
 
-pub rom-words : (base : ℕ) (filenames : Bool) (s : List ℕ) (t : Text) → romRow (romOf base filenames s) t ≡ romWords s t
-unfolding romRow romFront nameWords romOf romWords
+pub rom-words : (base : ℕ) (filenames : Bool) (s : List ℕ) (t : Text) → romRow (romOf base filenames s) t ≡ romRowWords s t
+unfolding romRow romFront nameWords romOf romRowWords
 rom-words base filenames s t = refl
 
 -- ---- ROM rows, each with its name

@@ -8,8 +8,8 @@ ghost use Rattle.rows.specs.LentRows.{setWidth, romWidth};
 ghost use Rattle.walk.specs.Walk.{romOf, romsOf, walkP};
 ghost use Rattle.walk.specs.Names.{nameP, walkNamesP};
 ghost use Rattle.walk.specs.Code.Passes.{romAt, romsAt, setsAt};
-ghost use Rattle.rom_rows.specs.Code.{setWords, romWords, namedRow, namedRows, rowsFrom};
-ghost use Rattle.rom_rows.specs.Reply.{refusedWith, replyOf, setRowsLeft, romRowsLeft};
+ghost use Rattle.rom_rows.specs.Code.{setRowWords, romRowWords, namedRow, namedRows, rowsFrom};
+ghost use Rattle.rom_rows.specs.Reply.{refusedWalk, walkReply, walkSetRows, walkRomRows};
 use header::SdrrInfoFields;
 use text::Text;
 use walk::Walked;
@@ -28,7 +28,7 @@ fn put_words(rows: &mut [u32], at: usize, words: &[u32])
 
 // The row of the set whose part of the image is s.
 fn set_row(first: u32, s: &[u8]) -> [u32; rows::SET_WORDS]
-    ensures { λ r. ⌜ r ≡ setWords first (now (s .entry)) ⌝ }
+    ensures { λ r. ⌜ r ≡ setRowWords first (now (s .entry)) ⌝ }
 {
     [
         le::u32_at(s, 0),
@@ -44,7 +44,7 @@ fn set_row(first: u32, s: &[u8]) -> [u32; rows::SET_WORDS]
 
 // The row of a ROM info and its name.
 fn rom_row(s: &[u8], name: Text) -> [u32; rows::ROM_WORDS]
-    ensures { λ r. ⌜ r ≡ romWords (now (s .entry)) name ⌝ }
+    ensures { λ r. ⌜ r ≡ romRowWords (now (s .entry)) name ⌝ }
 {
     [
         le::u8_at(s, 0) as u32,
@@ -148,7 +148,7 @@ fn write_rom_sets(
 }
 
 fn refuse(number: u8) -> Walked
-    ensures { λ r. ⌜ r ≡ refusedWith number ⌝ }
+    ensures { λ r. ⌜ r ≡ refusedWalk number ⌝ }
 {
     Walked {
         number,
@@ -166,9 +166,9 @@ pub fn read_rom_sets(
     set_rows: &mut [u32],
     rom_rows: &mut [u32],
 ) -> Walked
-    ensures reply { λ r. ⌜ r ≡ replyOf (run (walkP base fields count ptr) (now (image .entry))) (length (now («set_rows» .entry))) (length (now («rom_rows» .entry))) ⌝ }
-    ensures sets { λ r. ⌜ now («set_rows» .exit) ≡ setRowsLeft (run (walkP base fields count ptr) (now (image .entry))) (length (now («rom_rows» .entry))) (now («set_rows» .entry)) ⌝ }
-    ensures roms { λ r. ⌜ now («rom_rows» .exit) ≡ romRowsLeft (run (walkP base fields count ptr) (now (image .entry))) (run (walkNamesP base (run (walkP base fields count ptr) (now (image .entry)))) (now (image .entry))) (length (now («set_rows» .entry))) (now («rom_rows» .entry)) ⌝ }
+    ensures reply { λ r. ⌜ r ≡ walkReply (run (walkP base fields count ptr) (now (image .entry))) (length (now («set_rows» .entry))) (length (now («rom_rows» .entry))) ⌝ }
+    ensures sets { λ r. ⌜ now («set_rows» .exit) ≡ walkSetRows (run (walkP base fields count ptr) (now (image .entry))) (length (now («rom_rows» .entry))) (now («set_rows» .entry)) ⌝ }
+    ensures roms { λ r. ⌜ now («rom_rows» .exit) ≡ walkRomRows (run (walkP base fields count ptr) (now (image .entry))) (run (walkNamesP base (run (walkP base fields count ptr) (now (image .entry)))) (now (image .entry))) (length (now («set_rows» .entry))) (now («rom_rows» .entry)) ⌝ }
 {
     let judged = walk::judge_rom_sets(image, base, fields, count, ptr);
     if judged.number != 0 {

@@ -16,8 +16,8 @@ use Rattle.runtime_info.specs.declared.RuntimeVersionedFields.{RuntimeVe
 use Rattle.runtime_info.specs.declared.SdrrRuntimeInfo.{SdrrRuntimeInfo}
 
 -- "sdrr"
-abbrev pub magic : List ℕ
-magic = 115 ∷ 100 ∷ 114 ∷ 114 ∷ []
+abbrev pub runtimeMagic : List ℕ
+runtimeMagic = 115 ∷ 100 ∷ 114 ∷ 114 ∷ []
 
 abbrev pub sizeByte : List ℕ → ℕ
 sizeByte s = u8At s 4
@@ -36,10 +36,10 @@ headOf s ramBase =
     }
 
 -- 2: under 20 bytes. 60: magic. 61: size byte under 20. 62: RAM base plus 8 above 2^32 − 1.
-unfoldable pub headerOf : List ℕ → ℕ → RuntimeHeader
-headerOf s ramBase =
+unfoldable pub runtimeHeader : List ℕ → ℕ → RuntimeHeader
+runtimeHeader s ramBase =
     pick (ltb (length s) 20) (RuntimeHeader.Refused 2)
-    (pick (not (startsWith s magic)) (RuntimeHeader.Refused 60)
+    (pick (not (startsWith s runtimeMagic)) (RuntimeHeader.Refused 60)
     (pick (ltb (sizeByte s) 20) (RuntimeHeader.Refused 61)
     (pick (ltb 4294967295 (ramBase + 8)) (RuntimeHeader.Refused 62)
     (RuntimeHeader.Head (headOf s ramBase)))))
@@ -109,8 +109,8 @@ group067Of s =
     GroupV067.Absent
 
 -- Groups do not wait for each other.
-abbrev pub fieldsOf : List ℕ → RuntimeVersionedFields
-fieldsOf s = record { «v0_6_0» = group060Of s; «v0_6_2» = group062Of s; «v0_6_3» = group063Of s; «v0_6_7» = group067Of s }
+abbrev pub runtimeFields : List ℕ → RuntimeVersionedFields
+runtimeFields s = record { «v0_6_0» = group060Of s; «v0_6_2» = group062Of s; «v0_6_3» = group063Of s; «v0_6_7» = group067Of s }
 
 -- the groups beside an accepted head
 abbrev pub withFields : RuntimeHeader → RuntimeVersionedFields → SdrrRuntimeInfo
@@ -119,4 +119,4 @@ withFields (RuntimeHeader.Refused n) fields = SdrrRuntimeInfo.Refused n
 
 -- the whole record
 abbrev pub runtimeOf : List ℕ → ℕ → SdrrRuntimeInfo
-runtimeOf s ramBase = withFields (headerOf s ramBase) (fieldsOf s)
+runtimeOf s ramBase = withFields (runtimeHeader s ramBase) (runtimeFields s)

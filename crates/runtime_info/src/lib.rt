@@ -1,7 +1,7 @@
 // The runtime record that a running board keeps in RAM (parsing.rs, and parse_ram of lib.rs).
 ghost use mathlib.Core.Path.{_≡_};
 ghost use Prim.Native.Nat.{_+_, _≤_};
-ghost use Rattle.runtime_info.specs.Runtime.{headOf, headerOf, reaches, isVoltage, isServeMode, isBitMode, isLimpMode, present060, present062, present067, group060Of, group062Of, group063Of, group067Of, fieldsOf, runtimeOf};
+ghost use Rattle.runtime_info.specs.Runtime.{headOf, runtimeHeader, reaches, isVoltage, isServeMode, isBitMode, isLimpMode, present060, present062, present067, group060Of, group062Of, group063Of, group067Of, runtimeFields, runtimeOf};
 
 pub struct SdrrRuntimeInfoHeader {
     pub image_sel: u8,
@@ -93,7 +93,7 @@ fn read_head(data: &[u8], ram_base: u32) -> SdrrRuntimeInfoHeader
 }
 
 pub fn parse_and_validate_runtime_info(data: &[u8], ram_base: u32) -> RuntimeHeader
-    ensures { λ r. ⌜ r ≡ headerOf (now («data» .entry)) «ram_base» ⌝ }
+    ensures { λ r. ⌜ r ≡ runtimeHeader (now («data» .entry)) «ram_base» ⌝ }
 {
     if data.len() < 20 {
         return RuntimeHeader::Refused(2);
@@ -220,7 +220,7 @@ fn group_v067(data: &[u8]) -> GroupV067
 
 // Each group stands for itself: one that is absent takes no other with it.
 pub fn parse_runtime_versioned_fields(data: &[u8]) -> RuntimeVersionedFields
-    ensures { λ r. ⌜ r ≡ fieldsOf (now («data» .entry)) ⌝ }
+    ensures { λ r. ⌜ r ≡ runtimeFields (now («data» .entry)) ⌝ }
 {
     RuntimeVersionedFields {
         v0_6_0: group_v060(data),

@@ -5,7 +5,7 @@ use mathlib.Core.List.{List, [], _∷_}
 use lib.ListN.{replicate}
 use Rattle.window.specs.Window.{canRead}
 use Rattle.le.specs.Le.{startsWith}
-use Rattle.runtime_info.specs.Runtime.{headOf, headerOf, reaches, group060Of, group062Of, group063Of, group067Of, runtimeOf}
+use Rattle.runtime_info.specs.Runtime.{headOf, runtimeHeader, reaches, group060Of, group062Of, group063Of, group067Of, runtimeOf}
 use Rattle.runtime_info.specs.Words.{headWords, words060, words062, words063, words067, runtimeWords, numberOf, wordsAfter}
 use Rattle.prog.specs.Prog.{run, answer as readAnswer}
 use Rattle.utf8.specs.Utf8.{classOf, lowAfter, highAfter, lacking, isUtf8}
@@ -91,7 +91,7 @@ expected M2 = 0 ∷ 8197 ∷ []
 expected M3 = 77 ∷ 0 ∷ []
 
 pub starred : (c : Case) → answer c ≡ expected c
-unfolding startsWith headOf headerOf reaches group060Of group062Of group063Of group067Of headWords words060 words062 words063 words067 runtimeWords textP chunksP judged hasNul beforeNul isUtf8 lacking classOf lowAfter highAfter run readAnswer canRead
+unfolding startsWith headOf runtimeHeader reaches group060Of group062Of group063Of group067Of headWords words060 words062 words063 words067 runtimeWords textP chunksP judged hasNul beforeNul isUtf8 lacking classOf lowAfter highAfter run readAnswer canRead
 starred R1 = refl
 starred R2 = refl
 starred R3 = refl

@@ -15,7 +15,7 @@ use Rattle.window.specs.Window.{canRead}
 use Rattle.window.specs.Laws.{inside-true, true-inside, past-false, part}
 use Rattle.prog.specs.Prog.{run}
 use Rattle.utf8.specs.Utf8.{isUtf8}
-use Rattle.text.specs.Text.{accepted, refused, partOf, hasNul, beforeNul, judged, textP}
+use Rattle.text.specs.Text.{acceptedText, refusedText, partOf, hasNul, beforeNul, judged, textP}
 use Rattle.text.specs.Laws.Nul.{before-shorter, before-all}
 use Rattle.text.specs.Laws.Chunks.{restP, chunkAfter, text-start, chunks-none, chunks-ended, chunks-found, chunks-next, part-inside}
 use Rattle.text.specs.declared.Text.{Text as Str}
@@ -39,18 +39,18 @@ pub part-held : (x : List ℕ) (t : Str) → t .offset + t .length ≤ length x 
 part-held x t h = part (t .offset) (t .length) x ∙ sym (part-inside x t h)
 
 -- a string whose NUL was found: accepted, or not UTF-8
-module _ (x : List ℕ) (offset n : ℕ) (inside : offset + n ≤ length x) (s : List ℕ) (e : s ≡ partOf x (accepted offset n)) where
+module _ (x : List ℕ) (offset n : ℕ) (inside : offset + n ≤ length x) (s : List ℕ) (e : s ≡ partOf x (acceptedText offset n)) where
   held : s ≡ take n (drop offset x)
-  held = e ∙ part-inside x (accepted offset n) inside
+  held = e ∙ part-inside x (acceptedText offset n) inside
 
-  pub judged-good : true ≡ isUtf8 s → accepted offset n ≡ judged offset (take n (drop offset x))
+  pub judged-good : true ≡ isUtf8 s → acceptedText offset n ≡ judged offset (take n (drop offset x))
   unfolding judged
   judged-good h =
       let full : length (take n (drop offset x)) ≡ n = length-take-le n (drop offset x) (simp length-drop (omega arith)) in
       let u : isUtf8 (take n (drop offset x)) ≡ true = sym (h ∙ ap isUtf8 held) in
       rw (u, full)
 
-  pub judged-bad : false ≡ isUtf8 s → refused 21 ≡ judged offset (take n (drop offset x))
+  pub judged-bad : false ≡ isUtf8 s → refusedText 21 ≡ judged offset (take n (drop offset x))
   unfolding judged
   judged-bad h = let u : isUtf8 (take n (drop offset x)) ≡ false = sym (h ∙ ap isUtf8 held) in rw u
 
@@ -65,7 +65,7 @@ pub rest-start : (x : List ℕ) (base pointer : ℕ) → base ≤ pointer → Re
 rest-start x base pointer h = record { left = 16; whole = refl; from = h; same = text-start x base pointer h }
 
 module _ (x : List ℕ) (base pointer n : ℕ) (r : Rest x base pointer n) where
-  pub rest-full : 1024 ≤ n → refused 20 ≡ run (textP base pointer) x
+  pub rest-full : 1024 ≤ n → refusedText 20 ≡ run (textP base pointer) x
   rest-full h =
       let z : r .left ≡ 0 = omega arith in
       sym (r .same ∙ rw z (chunks-none x base pointer n))
@@ -76,7 +76,7 @@ module _ (x : List ℕ) (base pointer n : ℕ) (r : Rest x base pointer n) where
         let z : r .left ≡ suc (r .left - 1) = omega arith in
         r .same ∙ ap (λ (l : ℕ). run (restP x base pointer l n) x) z
 
-    pub rest-refused : canRead x base (pointer + n) 64 ≡ false → refused 2 ≡ run (textP base pointer) x
+    pub rest-refused : canRead x base (pointer + n) 64 ≡ false → refusedText 2 ≡ run (textP base pointer) x
     rest-refused e = sym (next ∙ chunks-ended x base pointer (r .left - 1) n e)
 
     module _ (e : canRead x base (pointer + n) 64 ≡ true) where

@@ -4,7 +4,7 @@ ghost use Prim.Native.Nat.{_+_, _≤_};
 ghost use lib.ListN.{length, take, drop};
 ghost use Rattle.window.specs.Window.{canRead};
 ghost use Rattle.prog.specs.Prog.{run};
-ghost use Rattle.text.specs.Text.{refused, bytesOf, partOf, beforeNul, judged, textP};
+ghost use Rattle.text.specs.Text.{refusedText, bytesOf, partOf, beforeNul, judged, textP};
 
 // A string is read in chunks of 64 bytes, at most 1,024.
 const CHUNK: usize = 64;
@@ -45,7 +45,7 @@ pub fn string_part(image: &[u8], text: Text) -> &[u8]
 }
 
 fn refuse(number: u8) -> Text
-    ensures { λ r. ⌜ r ≡ refused number ⌝ }
+    ensures { λ r. ⌜ r ≡ refusedText number ⌝ }
 {
     Text {
         number,

@@ -18,7 +18,7 @@ use Rattle.header.specs.Header.{hasFilenames}
 use Rattle.walk.specs.declared.Walked.{Walked}
 use Rattle.walk.specs.Laws.Passes.{romsIn, total-none}
 use Rattle.walk.specs.Code.Judged.{walked, judgedOf, walked-good, walked-bad, walk-judged}
-use Rattle.walk.specs.Code.Passes.{orNext, infoNumber, infoPointer, romNumber, romsNumber, tableNumber, pointedNumber, configOf, overridesOf, headerNumber, partNumber, setNumber, strideOf, after, setsNumber, walkNumber}
+use Rattle.walk.specs.Code.Passes.{orNext, infoNumber, infoPointer, romNumber, romsNumber, tableNumber, pointedNumber, configOf, overridesOf, headerNumber, partNumber, oneSetNumber, strideOf, after, setsNumber, walkNumber}
 
 -- ---- one part after the other
 
@@ -138,12 +138,12 @@ module _ (x : List ℕ) (base : ℕ) (filenames : Bool) (s : List ℕ) (n : ℕ)
   part-roms f t c g h m i = rw (← e, ← g, ← h) (i ∙ next-goes f)
 
 module _ (x : List ℕ) (base : ℕ) (filenames : Bool) (address : ℕ) where
-  pub set-ended : canRead x base address 64 ≡ false → 2 ≡ setNumber x base filenames address
-  unfolding setNumber
+  pub set-ended : canRead x base address 64 ≡ false → 2 ≡ oneSetNumber x base filenames address
+  unfolding oneSetNumber
   set-ended e = rw e
 
-  pub set-judged : canRead x base address 64 ≡ true → (s : List ℕ) → s ≡ onFrom x base address → (n : ℕ) → n ≡ partNumber x base filenames s → n ≡ setNumber x base filenames address
-  unfolding setNumber
+  pub set-judged : canRead x base address 64 ≡ true → (s : List ℕ) → s ≡ onFrom x base address → (n : ℕ) → n ≡ partNumber x base filenames s → n ≡ oneSetNumber x base filenames address
+  unfolding oneSetNumber
   set-judged e s h n i = rw (e, ← h) i
 
 -- ---- so many sets
@@ -154,13 +154,13 @@ module _ (x : List ℕ) (base : ℕ) (filenames long : Bool) where
     unfolding setsNumber
     sets-none e = rw e
 
-    module _ (h : left ≡ 0 → ⊥) (n : ℕ) (e : n ≡ setNumber x base filenames address) where
+    module _ (h : left ≡ 0 → ⊥) (n : ℕ) (e : n ≡ oneSetNumber x base filenames address) where
       sets-step : setsNumber x base filenames long address left ≡ orNext n (setsNumber x base filenames long (after x base long address) (left - 1))
       unfolding setsNumber
       sets-step = rw e (go left h)
         where
           go : (k : ℕ) → (k ≡ 0 → ⊥)
-              → setsNumber x base filenames long address k ≡ orNext (setNumber x base filenames address) (setsNumber x base filenames long (after x base long address) (k - 1))
+              → setsNumber x base filenames long address k ≡ orNext (oneSetNumber x base filenames address) (setsNumber x base filenames long (after x base long address) (k - 1))
           go zero i = absurd (i refl)
           go (suc k) i = rw sub-one
 

@@ -3,12 +3,12 @@ use Prim.Native.Nat.{ℕ}
 use mathlib.Core.List.{List, [], _∷_}
 use Rattle.prog.specs.Prog.{Prog, done, also, mapP, aside}
 use Rattle.text.specs.declared.Text.{Text}
-use Rattle.text.specs.Text.{textP, refused}
+use Rattle.text.specs.Text.{textP, refusedText}
 use Rattle.walk.specs.Walk.{NameAt, noName, nameAt, Rom, RomSet, Part, stop, found, romsOf}
 
 -- a missing name is reason 1 without a read
 unfoldable pub nameP : ℕ → NameAt → Prog Text
-nameP base noName = done (refused 1)
+nameP base noName = done (refusedText 1)
 nameP base (nameAt pointer) = textP base pointer
 
 unfoldable pub namesP : ℕ → List Rom → Prog (List Text)

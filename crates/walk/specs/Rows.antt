@@ -5,7 +5,7 @@ use mathlib.Core.List.{List, [], _∷_, _++_, map}
 use lib.Dec.{ltb}
 use lib.ListN.{length, getD, drop}
 use Rattle.text.specs.declared.Text.{Text}
-use Rattle.text.specs.Text.{refused}
+use Rattle.text.specs.Text.{refusedText}
 use Rattle.walk.specs.Walk.{Rom, RomSet, romsOf}
 use Rattle.rows.specs.LentRows.{setWidth, romWidth}
 
@@ -41,7 +41,7 @@ romRow r t = romFront r ++ nameWords t
 -- each ROM with its name; a name that the list lacks, as no opening gives it, counts as missing
 unfoldable pub romRows : List Rom → List Text → List ℕ
 romRows [] ts = []
-romRows (r ∷ rs) ts = romRow r (getD ts 0 (refused 1)) ++ romRows rs (drop 1 ts)
+romRows (r ∷ rs) ts = romRow r (getD ts 0 (refusedText 1)) ++ romRows rs (drop 1 ts)
 
 -- "Walk": 44 where the lent set rows do not suffice, then 45 where the ROM rows do not, and only where nothing else refuses. Counted in words.
 abbrev pub shortSets : List RomSet → ℕ → Bool

@@ -3,7 +3,7 @@ ghost use mathlib.Core.Path.{_≡_};
 ghost use lib.ListN.{length};
 ghost use Rattle.prog.specs.Prog.{run};
 ghost use Rattle.walk.specs.Walk.{infoSize, romsOf, walkP};
-ghost use Rattle.walk.specs.Code.Passes.{infoNumber, romNumber, romsNumber, tableNumber, pointedNumber, headerNumber, partNumber, setNumber, setsNumber, setsAt};
+ghost use Rattle.walk.specs.Code.Passes.{infoNumber, romNumber, romsNumber, tableNumber, pointedNumber, headerNumber, partNumber, oneSetNumber, setsNumber, setsAt};
 ghost use Rattle.walk.specs.Code.Judged.{walked, judgedOf};
 use header::SdrrInfoFields;
 
@@ -123,7 +123,7 @@ fn judge_part(image: &[u8], base: u32, filenames: bool, s: &[u8]) -> u8
 
 // Always 64 bytes are read.
 fn judge_set(image: &[u8], base: u32, filenames: bool, address: u64) -> u8
-    ensures { λ r. ⌜ r ≡ setNumber (now (image .entry)) base filenames address ⌝ }
+    ensures { λ r. ⌜ r ≡ oneSetNumber (now (image .entry)) base filenames address ⌝ }
 {
     if !window::can_read(image, base, address, 64) {
         return 2;

@@ -27,7 +27,7 @@ use Rattle.walk.specs.Rows.{setRows, romFront, shortSets, shortRoms}
 use Rattle.walk.specs.Laws.Ended.{Ended}
 use Rattle.fw_parser.specs.declared.Settings.{Settings}
 use Rattle.fw_parser.specs.declared.SdrrInfo.{SdrrInfo}
-use Rattle.fw_parser.specs.Opening.{Looked, notLookedFor, looked, Sets, Items, Row, itemsOf, rowP, metadataItem, setsItem, reportOf, setsOf, Opened, refused, opened, verdict, afterHeader, openP}
+use Rattle.fw_parser.specs.Opening.{Looked, notLookedFor, looked, Sets, Items, ItemAnswers, itemsOf, itemsP, metadataItem, setsItem, reportOf, setsOf, Opened, refused, opened, verdict, afterHeader, openP}
 use Rattle.cut_short.specs.Shown.{nameOf, EndedReport, EndedOpening, Kept, KeptOpening}
 use Rattle.cut_short.specs.Laws.Cuts.{EndedText, EndedLook, EndedName, EndedSets, NamesCut, EndedRow, RowCut, row-cut}
 
@@ -60,7 +60,7 @@ sets-served : (n : ℕ) (w : Part (List RomSet)) → Ended w → setsItem n w .s
 sets-served n (stop m passed) e = refl
 sets-served n (found ss) e = absurd e
 
-module _ (h : SdrrInfoHeader) (t w : Row) where
+module _ (h : SdrrInfoHeader) (t w : ItemAnswers) where
   report-ended : EndedRow t → EndedReport (reportOf h (itemsOf t)) (itemsOf t .names)
   unfolding reportOf
   report-ended (inl e) = inl e
@@ -114,7 +114,7 @@ module _ (lentSets lentRoms : ℕ) where
   room-ended (stop n passed) e = (le-ltb lentSets 0 (omega arith), le-ltb lentRoms 0 (omega arith))
   room-ended (found ss) e = absurd e
 
-  verdict-ended : (h : SdrrInfoHeader) (t : Row) → EndedRow t → EndedAny (verdict lentSets lentRoms h (itemsOf t))
+  verdict-ended : (h : SdrrInfoHeader) (t : ItemAnswers) → EndedRow t → EndedAny (verdict lentSets lentRoms h (itemsOf t))
   unfolding verdict
   verdict-ended h t e = go (shortSets (setsOf (itemsOf t .sets .walk)) lentSets) (shortRoms (setsOf (itemsOf t .sets .walk)) lentRoms)
     where
@@ -124,7 +124,7 @@ module _ (lentSets lentRoms : ℕ) where
       go false true = tt
       go false false = report-ended h t t e
 
-  verdict-beside : (h : SdrrInfoHeader) (t w : Row) → RowCut t w → Beside (verdict lentSets lentRoms h (itemsOf t)) (verdict lentSets lentRoms h (itemsOf w))
+  verdict-beside : (h : SdrrInfoHeader) (t w : ItemAnswers) → RowCut t w → Beside (verdict lentSets lentRoms h (itemsOf t)) (verdict lentSets lentRoms h (itemsOf w))
   unfolding verdict
   verdict-beside h t w c =
       ⊎-elim
@@ -159,7 +159,7 @@ module _ (s : Settings) (lentSets lentRoms : ℕ) where
   abbrev restP : HeaderAnswer → Prog Opened
   restP a =
       mapP (λ t. verdict lentSets lentRoms (a .header) (itemsOf t))
-      (rowP (baseAfter (s .«flash_base») (s .«cs0_base») (a .header .fields .«stm_line»)) (a .header))
+      (itemsP (baseAfter (s .«flash_base») (s .«cs0_base») (a .header .fields .«stm_line»)) (a .header))
 
   rest-cut : (a : HeaderAnswer) → Cut EndedAny Beside (restP a) (restP a)
   rest-cut a =

@@ -18,7 +18,7 @@ use Rattle.rows.specs.LentRows.{romWidth, typeWord}
 use Rattle.walk.specs.Rows.{setRows, romFront, romRows, overwritten}
 use Rattle.walk.specs.Laws.Rows.{rom-rows-length, type-words}
 use Rattle.info.specs.Lent.{Lent}
-use Rattle.info.specs.Reads.{Bytes, RomRead, lengthOf, readP, Reply, replyOf, romRead}
+use Rattle.info.specs.Reads.{Bytes, RomRead, lengthOf, readP, Reply, readReply, romRead}
 use Rattle.info.specs.Laws.Like.{Like, read-like, read-honest, read-unserved}
 use Rattle.fw_parser.specs.declared.Settings.{Settings}
 use Rattle.fw_parser.specs.declared.SdrrInfo.{SdrrInfo}

@@ -35,7 +35,7 @@ use Rattle.pins.specs.Laws.{pins-honest}
 use Rattle.walk.specs.Walk.{NameAt, noName, nameAt, Rom, RomSet, Part, stop, found, romsOf, walkP}
 use Rattle.walk.specs.Names.{nameP, namesP, walkNamesP}
 use Rattle.walk.specs.Laws.Ended.{Ended, walk-honest}
-use Rattle.fw_parser.specs.Opening.{Looked, notLookedFor, looked, lookP, metadataEnded, setCount, setsPointer, Sets, counted, setsP, Row, rowP}
+use Rattle.fw_parser.specs.Opening.{Looked, notLookedFor, looked, lookP, metadataEnded, setCount, setsPointer, Sets, counted, setsItemP, ItemAnswers, itemsP}
 
 -- ---- what is ended
 
@@ -92,15 +92,15 @@ look-honest base h =
 abbrev pub EndedSets : Sets → Type 0
 EndedSets s = Ended (s .walk)
 
-sets-honest : (base : ℕ) (h : SdrrInfoHeader) (l : Looked) → Honest EndedSets (setsP base h l)
-unfolding setsP
+sets-honest : (base : ℕ) (h : SdrrInfoHeader) (l : Looked) → Honest EndedSets (setsItemP base h l)
+unfolding setsItemP
 sets-honest base h l =
     honest-map (counted (setCount h l))
     (honest-pick (metadataEnded l) honest-done (walk-honest base (h .fields) (setCount h l) (setsPointer h l))) (λ w e. e)
 
 -- sets are marked ended where metadata ended
-sets-ended : (base : ℕ) (h : SdrrInfoHeader) (l : Looked) → EndedLook l → (x : List ℕ) → EndedSets (run (setsP base h l) x)
-unfolding setsP run
+sets-ended : (base : ℕ) (h : SdrrInfoHeader) (l : Looked) → EndedLook l → (x : List ℕ) → EndedSets (run (setsItemP base h l) x)
+unfolding setsItemP run
 sets-ended base h notLookedFor e x = absurd e
 sets-ended base h (looked m) e x = rw (eq-eqb (m .number) 2 e) refl
 
@@ -147,25 +147,25 @@ abbrev SetsTailCut : SetsTail → SetsTail → Type 0
 SetsTailCut t u = OrEnded EndedSets (t .0) (u .0) × TailCut (t .1) (u .1)
 
 sets-after : (base : ℕ) (h : SdrrInfoHeader) (l m : Looked) → OrEnded EndedLook l m
-    → Cut (λ v. EndedLook l ⊎ EndedSetsTail v) SetsTailCut (also (setsP base h l) λ s. tailP base h s) (also (setsP base h m) λ s. tailP base h s)
+    → Cut (λ v. EndedLook l ⊎ EndedSetsTail v) SetsTailCut (also (setsItemP base h l) λ s. tailP base h s) (also (setsItemP base h m) λ s. tailP base h s)
 sets-after base h l m r =
     cut-mono (λ v e. inr e) (λ v w e. e) (cut-also (cut-after (sets-honest base h) (sets-ended base h) l m r) (tail-after base h))
 
 -- ---- all items
 
-abbrev pub EndedRow : Row → Type 0
+abbrev pub EndedRow : ItemAnswers → Type 0
 EndedRow t =
     EndedText (t .0) ⊎ (EndedText (t .1 .0) ⊎ (EndedExtra (t .1 .1 .0) ⊎ (EndedLook (t .1 .1 .1 .0) ⊎ EndedSetsTail (t .1 .1 .1 .1))))
 
-abbrev pub RowCut : Row → Row → Type 0
+abbrev pub RowCut : ItemAnswers → ItemAnswers → Type 0
 RowCut t w =
     OrEnded EndedText (t .0) (w .0)
     × (OrEnded EndedText (t .1 .0) (w .1 .0)
     × (OrEnded EndedExtra (t .1 .1 .0) (w .1 .1 .0)
     × (OrEnded EndedLook (t .1 .1 .1 .0) (w .1 .1 .1 .0) × SetsTailCut (t .1 .1 .1 .1) (w .1 .1 .1 .1))))
 
-pub row-cut : (base : ℕ) (h : SdrrInfoHeader) → Cut EndedRow RowCut (rowP base h) (rowP base h)
-unfolding rowP
+pub row-cut : (base : ℕ) (h : SdrrInfoHeader) → Cut EndedRow RowCut (itemsP base h) (itemsP base h)
+unfolding itemsP
 row-cut base h =
     cut-beside (text-honest base (h .«build_date_ptr»))
     (cut-beside (text-honest base (h .«hw_rev_ptr»))

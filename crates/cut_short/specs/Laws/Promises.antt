@@ -8,7 +8,7 @@ use lib.ListN.{length, take}
 use Rattle.fw_parser.specs.declared.Settings.{Settings}
 use Rattle.fw_parser.specs.declared.SdrrInfo.{SdrrInfo}
 use Rattle.fw_parser.specs.Opening.{Opened, refused, opened}
-use Rattle.fw_parser.specs.Reply.{replyOf, boardOf}
+use Rattle.fw_parser.specs.Reply.{openingReply, boardOf}
 use Rattle.fw_parser.specs.Laws.Fits.{Fits, opening-fits}
 use Rattle.fw_parser.specs.Laws.Promises.{replied, setsAfter, romsAfter}
 use Rattle.info.specs.Lent.{Lent}
@@ -20,10 +20,10 @@ use Rattle.cut_short.specs.Laws.Proof.{demand3}
 module _ (s : Settings) (sets roms x : List ℕ) where
   -- "opens", of which demand 3 speaks, is the number 0 of the code
   pub number-0-opens : replied s sets roms x .number ≡ 0 → Opens (openWith s sets roms x)
-  unfolding replyOf
+  unfolding openingReply
   number-0-opens h = go (openWith s sets roms x) h (opening-fits (length sets) (length roms) s x)
     where
-      go : (p : Opened) → replyOf p .number ≡ 0 → Fits (length sets) (length roms) p → Opens p
+      go : (p : Opened) → openingReply p .number ≡ 0 → Fits (length sets) (length roms) p → Opens p
       go (refused n) i f = absurd (f i)
       go (opened r ss names) i f = tt
 
@@ -38,7 +38,7 @@ module _ (s : Settings) (sets roms x : List ℕ) where
       × (romsAfter s sets roms (take k x) ≡ romsAfter s sets roms x)
   reply-past h k l =
       let d = cut-short h k in
-      (ap replyOf (d .report-past l), d .set-rows-past l, d .rom-rows-past l)
+      (ap openingReply (d .report-past l), d .set-rows-past l, d .rom-rows-past l)
 
 -- a read on the board of a report is a read on that report, of which the last clause speaks
 pub on-board : (s : Settings) (r : SdrrInfo) (sets roms : List ℕ) → lentBy (boardOf s r) sets roms ≡ lentOf r sets roms

@@ -17,7 +17,7 @@ use Rattle.text.specs.declared.Text.{Text}
 use Rattle.walk.specs.Walk.{RomSet, romsOf}
 use Rattle.walk.specs.Rows.{setRows, romRows, overwritten}
 use Rattle.info.specs.Lent.{Lent}
-use Rattle.info.specs.Reads.{Bytes, RomRead, lengthOf, readP, Reply, replyOf, romRead}
+use Rattle.info.specs.Reads.{Bytes, RomRead, lengthOf, readP, Reply, readReply, romRead}
 use Rattle.info.specs.Laws.Like.{read-unserved}
 use Rattle.fw_parser.specs.declared.Settings.{Settings}
 use Rattle.fw_parser.specs.declared.SdrrInfo.{SdrrInfo}
@@ -61,7 +61,7 @@ reply-bytes : (s : Settings) (l : Lent) (r : RomRead) (x bs : List ℕ) → outs
 unfolding romRead
 reply-bytes s l r x bs w e =
     let b = run (readP (baseAfter (s .«flash_base») (s .«cs0_base») (l .line)) l 0 r) x in
-    let f : replyOf 0 r b ≡ record { number = 0; bytes = bs; count = lengthOf r } = rw w at e in
+    let f : readReply 0 r b ≡ record { number = 0; bytes = bs; count = lengthOf r } = rw w at e in
     ap (λ (t : Reply). record { number = t .number; bytes = t .bytes }) f
 
 bytes-reply : (s : Settings) (l : Lent) (r : RomRead) (x bs : List ℕ) → outside s x ≡ false

@@ -1,6 +1,6 @@
 use borrow.Author.Needs.{needs}
 use Rattle.prog.specs.Laws.Record.{pointer-refused, pointer-read}
-use Rattle.extra_info.specs.ExtraInfo.{refused, extraInfoOf, extraInfoP}
+use Rattle.extra_info.specs.ExtraInfo.{refusedExtraInfo, extraInfoOf, extraInfoP}
 use Rattle.extra_info.specs.Laws.{extra-info-front}
 use Rattle.extra_info.proofs.read_extra_info.Statement.{statement}
 use Rattle.extra_info.proofs.read_extra_info.Tie as tie
@@ -16,7 +16,7 @@ unfolding extraInfoP
 returns c =
     let a = c .before .before .before .before .args in
     let number = c .before .before .pointer-number in
-    pointer-refused (a .image .now) (a .base) (a .ptr) 256 refused (extraInfoOf (a .version)) (extra-info-front (a .version)) (number .result) (number .ensures) (c .refuse .result) (search needs) (c .refuse .ensures)
+    pointer-refused (a .image .now) (a .base) (a .ptr) 256 refusedExtraInfo (extraInfoOf (a .version)) (extra-info-front (a .version)) (number .result) (number .ensures) (c .refuse .result) (search needs) (c .refuse .ensures)
 
 image-from-requires : tie.Need-image-from-requires
 image-from-requires c κs = search needs
@@ -30,7 +30,7 @@ returns-2 c =
     let a = c .before .before .before .before .before .args in
     let number = c .before .before .before .pointer-number in
     let from = c .before .image-from in
-    pointer-read (a .image .now) (a .base) (a .ptr) 256 refused (extraInfoOf (a .version)) (extra-info-front (a .version)) (number .result) (number .ensures) (c .parse-extra-info .result) (search needs) (from .result .now) (from .ensures) (c .parse-extra-info .ensures)
+    pointer-read (a .image .now) (a .base) (a .ptr) 256 refusedExtraInfo (extraInfoOf (a .version)) (extra-info-front (a .version)) (number .result) (number .ensures) (c .parse-extra-info .result) (search needs) (from .result .now) (from .ensures) (c .parse-extra-info .ensures)
 
 pub read-extra-info-spec : {M : Type 1} → statement M
 read-extra-info-spec =

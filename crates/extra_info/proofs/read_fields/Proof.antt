@@ -1,7 +1,7 @@
 use mathlib.Core.Path.{_∙_, ap}
 use borrow.Author.Needs.{needs}
 use Rattle.types.specs.Types.{portOf}
-use Rattle.extra_info.specs.ExtraInfo.{fieldsOf}
+use Rattle.extra_info.specs.ExtraInfo.{extraInfoFields}
 use Rattle.extra_info.proofs.read_fields.Statement.{statement}
 use Rattle.extra_info.proofs.read_fields.Tie as tie
 
@@ -27,7 +27,7 @@ u32-at-requires-2 : tie.Need-u32-at-requires-2
 u32-at-requires-2 c κs = search needs
 
 returns : tie.Need-returns
-unfolding fieldsOf
+unfolding extraInfoFields
 returns c = λ i.
     record {
       «rtt_ptr» = c .before .before .before .before .before .before .u32-at .ensures i;

@@ -23,7 +23,7 @@ use Rattle.rows.specs.LentRows.{setWidth, romWidth}
 use Rattle.walk.specs.Rows.{shortSets, shortRoms, overwritten}
 use Rattle.fw_parser.specs.declared.Settings.{Settings}
 use Rattle.fw_parser.specs.declared.SdrrInfo.{SdrrInfo}
-use Rattle.fw_parser.specs.Opening.{Items, Row, setsOf, reportOf, itemsOf, rowP, Opened, refused, opened, verdict, afterHeader, openP, opening}
+use Rattle.fw_parser.specs.Opening.{Items, ItemAnswers, setsOf, reportOf, itemsOf, itemsP, Opened, refused, opened, verdict, afterHeader, openP, opening}
 
 abbrev pub Fits : ℕ → ℕ → Opened → Type 0
 Fits setWords romWords (refused n) = n ≡ 0 → ⊥
@@ -46,7 +46,7 @@ module _ (n m : ℕ) where
     after-fits : (a : HeaderAnswer) → Fits n m (run (afterHeader s n m a) x)
     after-fits a =
         cases (eqb (a .number) 0)
-        (λ e. rw (e, run-map x (λ (t : Row). verdict n m (a .header) (itemsOf t)) (rowP (baseAfter (s .«flash_base») (s .«cs0_base») (a .header .fields .«stm_line»)) (a .header)))
+        (λ e. rw (e, run-map x (λ (t : ItemAnswers). verdict n m (a .header) (itemsOf t)) (itemsP (baseAfter (s .«flash_base») (s .«cs0_base») (a .header .fields .«stm_line»)) (a .header)))
         (verdict-fits (a .header) _))
         (λ e. rw (e, run-done x (refused (a .number))) (eqb-false (a .number) 0 e))
 

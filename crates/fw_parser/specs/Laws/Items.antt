@@ -26,7 +26,7 @@ use Rattle.walk.specs.Rows.{shortSets, shortRoms}
 use Rattle.walk.specs.Names.{walkNamesP}
 use Rattle.fw_parser.specs.declared.Settings.{Settings}
 use Rattle.fw_parser.specs.declared.SdrrInfo.{SdrrInfo}
-use Rattle.fw_parser.specs.Opening.{Looked, lookP, Sets, setsP, Items, Row, itemsOf, rowP, metadataItem, setsItem, reportOf, setsOf, Opened, refused, opened, verdict, afterHeader, openP}
+use Rattle.fw_parser.specs.Opening.{Looked, lookP, Sets, setsItemP, Items, ItemAnswers, itemsOf, itemsP, metadataItem, setsItem, reportOf, setsOf, Opened, refused, opened, verdict, afterHeader, openP}
 
 -- ---- the programs
 
@@ -53,7 +53,7 @@ extraP base h = extraInfoP base (h .«extra_ptr») (h .fields .version)
 
 -- the sets item goes by metadata's answer
 abbrev pub setsBehindP : ℕ → SdrrInfoHeader → Prog Sets
-setsBehindP base h = lookP base h >>= λ l. setsP base h l
+setsBehindP base h = lookP base h >>= λ l. setsItemP base h l
 
 -- the names go by the walk
 abbrev pub namesBehindP : ℕ → SdrrInfoHeader → Prog (List Text)
@@ -65,7 +65,7 @@ pinsItemP base h = pinsP base (h .«pins_ptr»)
 -- ---- the laws
 
 -- a row's parts are its items' answers
-record RowRun (base : ℕ) (h : SdrrInfoHeader) (x : List ℕ) (t : Row) : Type 0 where
+record RowRun (base : ℕ) (h : SdrrInfoHeader) (x : List ℕ) (t : ItemAnswers) : Type 0 where
   date : run (buildDateP base h) x ≡ t .0
   rev : run (hwRevP base h) x ≡ t .1 .0
   extra : run (extraP base h) x ≡ t .1 .1 .0
@@ -79,17 +79,17 @@ module _ (base : ℕ) (h : SdrrInfoHeader) (x : List ℕ) where
   look = run (lookP base h) x
 
   sets : Sets
-  sets = run (setsP base h look) x
+  sets = run (setsItemP base h look) x
 
-  tuple : Row
+  tuple : ItemAnswers
   tuple =
       (run (buildDateP base h) x, (run (hwRevP base h) x, (run (extraP base h) x, (look, (sets, (run (walkNamesP base (sets .walk)) x, run (pinsItemP base h) x))))))
 
-  row-run : run (rowP base h) x ≡ tuple
-  unfolding rowP tuple look sets
+  row-run : run (itemsP base h) x ≡ tuple
+  unfolding itemsP tuple look sets
   row-run = simp (run-also)
 
-  row-parts : RowRun base h x (run (rowP base h) x)
+  row-parts : RowRun base h x (run (itemsP base h) x)
   unfolding tuple look sets
   row-parts =
       rw row-run
@@ -98,8 +98,8 @@ module _ (base : ℕ) (h : SdrrInfoHeader) (x : List ℕ) where
         rev = refl;
         extra = refl;
         look = refl;
-        sets = run-bind x (lookP base h) (λ l. setsP base h l);
-        names = run-bind x (setsBehindP base h) (λ s. walkNamesP base (s .walk)) ∙ ap (λ (s : Sets). run (walkNamesP base (s .walk)) x) (run-bind x (lookP base h) (λ l. setsP base h l));
+        sets = run-bind x (lookP base h) (λ l. setsItemP base h l);
+        names = run-bind x (setsBehindP base h) (λ s. walkNamesP base (s .walk)) ∙ ap (λ (s : Sets). run (walkNamesP base (s .walk)) x) (run-bind x (lookP base h) (λ l. setsItemP base h l));
         pins = refl;
       })
 
@@ -144,14 +144,14 @@ module _ (s : Settings) (x : List ℕ) where
   open-run n m = run-bind x (headerP (s .«flash_base») (s .«info_offset»)) (afterHeader s n m)
 
   accepted-header : (n m : ℕ) (r : SdrrInfo) (ss : List RomSet) (names : List Text) → run (afterHeader s n m header) x ≡ opened r ss names
-      → (eqb (header .number) 0 ≡ true) × (verdict n m (header .header) (itemsOf (run (rowP base (header .header)) x)) ≡ opened r ss names)
+      → (eqb (header .number) 0 ≡ true) × (verdict n m (header .header) (itemsOf (run (itemsP base (header .header)) x)) ≡ opened r ss names)
   unfolding base run
   accepted-header n m r ss names e = go (eqb (header .number) 0) refl e
     where
       go : (b : Bool) → eqb (header .number) 0 ≡ b
-          → run (pick b (mapP (λ t. verdict n m (header .header) (itemsOf t)) (rowP base (header .header))) (done (refused (header .number)))) x ≡ opened r ss names
-          → (eqb (header .number) 0 ≡ true) × (verdict n m (header .header) (itemsOf (run (rowP base (header .header)) x)) ≡ opened r ss names)
-      go true h f = (h, sym (run-map x (λ t. verdict n m (header .header) (itemsOf t)) (rowP base (header .header))) ∙ f)
+          → run (pick b (mapP (λ t. verdict n m (header .header) (itemsOf t)) (itemsP base (header .header))) (done (refused (header .number)))) x ≡ opened r ss names
+          → (eqb (header .number) 0 ≡ true) × (verdict n m (header .header) (itemsOf (run (itemsP base (header .header)) x)) ≡ opened r ss names)
+      go true h f = (h, sym (run-map x (λ t. verdict n m (header .header) (itemsOf t)) (itemsP base (header .header))) ∙ f)
       go false h f = clash (cc)
 
   pub items-of : (n m : ℕ) (r : SdrrInfo) (ss : List RomSet) (names : List Text) → run (openP s n m) x ≡ opened r ss names → ItemsOf s x r ss names
@@ -159,7 +159,7 @@ module _ (s : Settings) (x : List ℕ) where
   items-of n m r ss names e =
       let h = header .header in
       let a = accepted-header n m r ss names (sym (open-run n m) ∙ e) in
-      let t = run (rowP base h) x in
+      let t = run (itemsP base h) x in
       let v = let-through n m h (itemsOf t) r ss names (a .1) in
       let p = row-parts base h x in
       record {
@@ -182,11 +182,11 @@ module _ (s : Settings) (x : List ℕ) where
 
   -- the sets that an opened image was walked for
   pub opened-sets : (n m : ℕ) (r : SdrrInfo) (ss : List RomSet) (names : List Text) → run (openP s n m) x ≡ opened r ss names
-      → (t : Sets) × (run (setsP base (header .header) (run (lookP base (header .header)) x)) x ≡ t) × (setsItem (t .count) (t .walk) ≡ r .«rom_sets») × (setsOf (t .walk) ≡ ss)
+      → (t : Sets) × (run (setsItemP base (header .header) (run (lookP base (header .header)) x)) x ≡ t) × (setsItem (t .count) (t .walk) ≡ r .«rom_sets») × (setsOf (t .walk) ≡ ss)
   unfolding reportOf
   opened-sets n m r ss names e =
       let h = header .header in
       let a = accepted-header n m r ss names (sym (open-run n m) ∙ e) in
-      let v = let-through n m h (itemsOf (run (rowP base h) x)) r ss names (a .1) in
+      let v = let-through n m h (itemsOf (run (itemsP base h) x)) r ss names (a .1) in
       let p = row-parts base h x in
-      (itemsOf (run (rowP base h) x) .sets, sym (run-bind x (lookP base h) (λ l. setsP base h l)) ∙ p .sets, ap (λ (i : SdrrInfo). i .«rom_sets») (v .0), v .1)
+      (itemsOf (run (itemsP base h) x) .sets, sym (run-bind x (lookP base h) (λ l. setsItemP base h l)) ∙ p .sets, ap (λ (i : SdrrInfo). i .«rom_sets») (v .0), v .1)

@@ -17,14 +17,14 @@ use Rattle.fw_parser.specs.declared.Settings.{Settings}
 use Rattle.fw_parser.specs.declared.SdrrInfo.{SdrrInfo}
 use Rattle.fw_parser.specs.declared.Opening.{Opening}
 use Rattle.fw_parser.specs.Opening.{Opened, refused, opened, opening, setRowsLeft, romRowsLeft}
-use Rattle.fw_parser.specs.Reply.{noReport, replyOf}
+use Rattle.fw_parser.specs.Reply.{noReport, openingReply}
 use Rattle.fw_parser.specs.Laws.Sanity.{ServedSets, served-sets}
 use Rattle.fw_parser.specs.Laws.Fits.{Fits, opening-fits, opened-run, Front, overwritten-front}
 
 -- ---- what the statements of the code say
 
 abbrev pub replied : Settings → List ℕ → List ℕ → List ℕ → Opening
-replied s sets roms x = replyOf (opening s (length sets) (length roms) x)
+replied s sets roms x = openingReply (opening s (length sets) (length roms) x)
 
 abbrev pub setsAfter : Settings → List ℕ → List ℕ → List ℕ → List ℕ
 setsAfter s sets roms x = setRowsLeft (opening s (length sets) (length roms) x) sets
@@ -45,10 +45,10 @@ module _ (s : Settings) (sets roms x : List ℕ) where
     pub rom-rows : romsAfter s sets roms x ≡ roms
 
   pub refused-changes-nothing : (replied s sets roms x .number ≡ 0 → ⊥) → Refused
-  unfolding replyOf
+  unfolding openingReply
   refused-changes-nothing h = go o refl h
     where
-      go : (p : Opened) → o ≡ p → (replyOf p .number ≡ 0 → ⊥) → Refused
+      go : (p : Opened) → o ≡ p → (openingReply p .number ≡ 0 → ⊥) → Refused
       go (refused n) e i = record { report = rw e; set-rows = rw e; rom-rows = rw e }
       go (opened r ss names) e i = absurd (i refl)
 
@@ -65,10 +65,10 @@ module _ (s : Settings) (sets roms x : List ℕ) where
     pub rom-rows : Front (romWidth * length (romsOf listed)) (romRows (romsOf listed) names) roms (romsAfter s sets roms x)
 
   pub accepted-changes-rows : replied s sets roms x .number ≡ 0 → Accepted
-  unfolding replyOf
+  unfolding openingReply
   accepted-changes-rows h = go o refl h (opening-fits (length sets) (length roms) s x)
     where
-      go : (p : Opened) → o ≡ p → replyOf p .number ≡ 0 → Fits (length sets) (length roms) p → Accepted
+      go : (p : Opened) → o ≡ p → openingReply p .number ≡ 0 → Fits (length sets) (length roms) p → Accepted
       go (refused n) e i f = absurd (f i)
       go (opened r ss names) e i f =
           record {

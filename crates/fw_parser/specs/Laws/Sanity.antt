@@ -20,7 +20,7 @@ use Rattle.walk.specs.Laws.Found.{Sound, Counted, walk-sound, counts-roms}
 use Rattle.fw_parser.specs.declared.Settings.{Settings}
 use Rattle.fw_parser.specs.declared.SetsItem.{SetsItem}
 use Rattle.fw_parser.specs.declared.SdrrInfo.{SdrrInfo}
-use Rattle.fw_parser.specs.Opening.{Looked, metadataEnded, setCount, setsPointer, Sets, counted, setsP, setsItem, setsOf, Opened, opened, openP}
+use Rattle.fw_parser.specs.Opening.{Looked, metadataEnded, setCount, setsPointer, Sets, counted, setsItemP, setsItem, setsOf, Opened, opened, openP}
 use Rattle.fw_parser.specs.Laws.Items.{opened-sets}
 
 -- ---- sets
@@ -34,8 +34,8 @@ pub data ServedSets (i : SetsItem) (ss : List RomSet) : Type 0 where
 abbrev Walked : Sets → Type 0
 Walked t = Sound (λ (ss : List RomSet). (length ss ≡ t .count) × Counted ss) (t .walk)
 
-sets-walked : (base : ℕ) (h : SdrrInfoHeader) (l : Looked) (x : List ℕ) → Walked (run (setsP base h l) x)
-unfolding setsP
+sets-walked : (base : ℕ) (h : SdrrInfoHeader) (l : Looked) (x : List ℕ) → Walked (run (setsItemP base h l) x)
+unfolding setsItemP
 sets-walked base h l x =
     subst Walked (sym (run-map x (counted (setCount h l)) (pick (metadataEnded l) (done (stop 2 [])) (walkP base (h .fields) (setCount h l) (setsPointer h l))))) (go (metadataEnded l))
   where

@@ -33,8 +33,8 @@ use Rattle.records.specs.Code.{sourceOf, recordsOf}
 use Rattle.fw_parser.specs.declared.Settings.{Settings}
 use Rattle.fw_parser.specs.declared.SdrrInfo.{SdrrInfo}
 use Rattle.fw_parser.specs.declared.Opening.{Opening}
-use Rattle.fw_parser.specs.Opening.{Looked, lookP, setCount, setsPointer, metadataEnded, counted, setsP, Items, itemsOf, rowP, setsItem, reportOf, setsOf, Opened, refused, opened, verdict, afterHeader, openP, opening, setRowsLeft, romRowsLeft}
-use Rattle.fw_parser.specs.Reply.{noReport, refusedWith, replyOf}
+use Rattle.fw_parser.specs.Opening.{Looked, lookP, setCount, setsPointer, metadataEnded, counted, setsItemP, Items, itemsOf, itemsP, setsItem, reportOf, setsOf, Opened, refused, opened, verdict, afterHeader, openP, opening, setRowsLeft, romRowsLeft}
+use Rattle.fw_parser.specs.Reply.{noReport, refusedOpening, openingReply}
 use Rattle.fw_parser.specs.Code.{walkOf, isShort, itemOf, reportWith}
 
 -- ---- the walk that metadata leaves
@@ -50,23 +50,23 @@ module _ (x : List ℕ) (base : ℕ) (f : SdrrInfoFields) (s : SetsSource) where
 
   -- the walk's number, and both rows as it leaves them
   pub record Walks (ls lr : List ℕ) (v : ℕ) (t u : List ℕ) : Type 0 where
-    pub reply : v ≡ rows.replyOf (walkOf base f s x) (length ls) (length lr) .number
-    pub set-rows : t ≡ rows.setRowsLeft (walkOf base f s x) (length lr) ls
-    pub rom-rows : u ≡ rows.romRowsLeft (walkOf base f s x) (run (walkNamesP base (walkOf base f s x)) x) (length ls) lr
+    pub reply : v ≡ rows.walkReply (walkOf base f s x) (length ls) (length lr) .number
+    pub set-rows : t ≡ rows.walkSetRows (walkOf base f s x) (length lr) ls
+    pub rom-rows : u ≡ rows.walkRomRows (walkOf base f s x) (run (walkNamesP base (walkOf base f s x)) x) (length ls) lr
 
   module _ (ls lr : List ℕ) where
     -- by what the walk is
-    walks : (w : Part (List RomSet)) → walkOf base f s x ≡ w → (v : ℕ) (t u : List ℕ) → v ≡ rows.replyOf w (length ls) (length lr) .number
-        → t ≡ rows.setRowsLeft w (length lr) ls → u ≡ rows.romRowsLeft w (run (walkNamesP base w) x) (length ls) lr → Walks ls lr v t u
+    walks : (w : Part (List RomSet)) → walkOf base f s x ≡ w → (v : ℕ) (t u : List ℕ) → v ≡ rows.walkReply w (length ls) (length lr) .number
+        → t ≡ rows.walkSetRows w (length lr) ls → u ≡ rows.walkRomRows w (run (walkNamesP base w) x) (length ls) lr → Walks ls lr v t u
     walks w e v t u k g h = record { reply = rw e k; set-rows = rw e g; rom-rows = rw e h }
 
     pub by-ended : s .ended ≡ true → Walks ls lr 2 ls lr
-    unfolding rows.replyOf rows.setRowsLeft rows.romRowsLeft
+    unfolding rows.walkReply rows.walkSetRows rows.walkRomRows
     by-ended e = walks (stop 2 []) (walk-ended e) 2 ls lr refl refl refl
 
-    pub by-made : s .ended ≡ false → (r : Walked) (t u : List ℕ) → r ≡ rows.replyOf (run (walkP base f (s .«rom_set_count») (s .«rom_sets_ptr»)) x) (length ls) (length lr)
-        → t ≡ rows.setRowsLeft (run (walkP base f (s .«rom_set_count») (s .«rom_sets_ptr»)) x) (length lr) ls
-        → u ≡ rows.romRowsLeft (run (walkP base f (s .«rom_set_count») (s .«rom_sets_ptr»)) x) (run (walkNamesP base (run (walkP base f (s .«rom_set_count») (s .«rom_sets_ptr»)) x)) x) (length ls) lr
+    pub by-made : s .ended ≡ false → (r : Walked) (t u : List ℕ) → r ≡ rows.walkReply (run (walkP base f (s .«rom_set_count») (s .«rom_sets_ptr»)) x) (length ls) (length lr)
+        → t ≡ rows.walkSetRows (run (walkP base f (s .«rom_set_count») (s .«rom_sets_ptr»)) x) (length lr) ls
+        → u ≡ rows.walkRomRows (run (walkP base f (s .«rom_set_count») (s .«rom_sets_ptr»)) x) (run (walkNamesP base (run (walkP base f (s .«rom_set_count») (s .«rom_sets_ptr»)) x)) x) (length ls) lr
         → Walks ls lr (r .number) t u
     by-made e r t u k g h = walks (run (walkP base f (s .«rom_set_count») (s .«rom_sets_ptr»)) x) (walk-made e) (r .number) t u (ap (λ (w : Walked). w .number) k) g h
 
@@ -91,29 +91,29 @@ module _ (o : Part (List RomSet) → Opened) (names : List Text) (ls lr : List �
 
   record Short (v : ℕ) (w : Part (List RomSet)) : Type 0 where
     refuses : decided w ≡ refused v
-    sets : rows.setRowsLeft w (length lr) ls ≡ ls
-    roms : rows.romRowsLeft w names (length ls) lr ≡ lr
+    sets : rows.walkSetRows w (length lr) ls ≡ ls
+    roms : rows.walkRomRows w names (length ls) lr ≡ lr
 
   record Long (v : ℕ) (w : Part (List RomSet)) : Type 0 where
     opens : decided w ≡ o w
     item : (count : ℕ) → setsItem count w ≡ itemOf v count
-    sets : rows.setRowsLeft w (length lr) ls ≡ overwritten (setRows (setsOf w)) ls
-    roms : rows.romRowsLeft w names (length ls) lr ≡ overwritten (romRows (romsOf (setsOf w)) names) lr
+    sets : rows.walkSetRows w (length lr) ls ≡ overwritten (setRows (setsOf w)) ls
+    roms : rows.walkRomRows w names (length ls) lr ≡ overwritten (romRows (romsOf (setsOf w)) names) lr
 
   module _ (v : ℕ) where
-    short : (w : Part (List RomSet)) → Numbered w → v ≡ rows.replyOf w (length ls) (length lr) .number → isShort v ≡ true → Short v w
-    unfolding rows.replyOf rows.setRowsLeft rows.romRowsLeft
+    short : (w : Part (List RomSet)) → Numbered w → v ≡ rows.walkReply w (length ls) (length lr) .number → isShort v ≡ true → Short v w
+    unfolding rows.walkReply rows.walkSetRows rows.walkRomRows
     short (stop k passed) t e s = both (sym s ∙ ap isShort e ∙ not-short k (t .1))
     short (found ss) t e s = go (shortSets ss (length ls)) (shortRoms ss (length lr)) refl refl e
       where
         go : (c d : Bool) → shortSets ss (length ls) ≡ c → shortRoms ss (length lr) ≡ d
-            → v ≡ pick c (rows.refusedWith 44) (pick d (rows.refusedWith 45) (record { number = 0; «rom_count» = length (romsOf ss) })) .number → Short v (found ss)
+            → v ≡ pick c (rows.refusedWalk 44) (pick d (rows.refusedWalk 45) (record { number = 0; «rom_count» = length (romsOf ss) })) .number → Short v (found ss)
         go true d f g h = record { refuses = rw (f, h) refl; sets = rw f; roms = rw f }
         go false true f g h = record { refuses = rw (f, g, h) refl; sets = rw (f, g); roms = rw (f, g) }
         go false false f g h = both (sym s ∙ ap isShort h)
 
-    long : (w : Part (List RomSet)) → Numbered w → v ≡ rows.replyOf w (length ls) (length lr) .number → isShort v ≡ false → Long v w
-    unfolding rows.replyOf rows.setRowsLeft rows.romRowsLeft itemOf setRowsAfter romsOf romRows
+    long : (w : Part (List RomSet)) → Numbered w → v ≡ rows.walkReply w (length ls) (length lr) .number → isShort v ≡ false → Long v w
+    unfolding rows.walkReply rows.walkSetRows rows.walkRomRows itemOf setRowsAfter romsOf romRows
     long (stop k passed) t e s =
         record {
           opens = rw (le-ltb (length ls) 0 (omega arith), le-ltb (length lr) 0 (omega arith));
@@ -124,7 +124,7 @@ module _ (o : Part (List RomSet) → Opened) (names : List Text) (ls lr : List �
     long (found ss) t e s = go (shortSets ss (length ls)) (shortRoms ss (length lr)) refl refl e
       where
         go : (c d : Bool) → shortSets ss (length ls) ≡ c → shortRoms ss (length lr) ≡ d
-            → v ≡ pick c (rows.refusedWith 44) (pick d (rows.refusedWith 45) (record { number = 0; «rom_count» = length (romsOf ss) })) .number → Long v (found ss)
+            → v ≡ pick c (rows.refusedWalk 44) (pick d (rows.refusedWalk 45) (record { number = 0; «rom_count» = length (romsOf ss) })) .number → Long v (found ss)
         go true d f g h = both (sym (ap isShort h) ∙ s)
         go false true f g h = both (sym (ap isShort h) ∙ s)
         go false false f g h = record { opens = rw (f, g); item = λ count. rw h refl; sets = rw (f, g); roms = rw (f, g) }
@@ -139,8 +139,8 @@ module _ (x : List ℕ) (base : ℕ) (h : SdrrInfoHeader) where
   abbrev walk : Part (List RomSet)
   walk = walkOf base (h .fields) (sourceOf h look) x
 
-  sets-run : run (setsP base h look) x ≡ counted (setCount h look) walk
-  unfolding setsP walkOf
+  sets-run : run (setsItemP base h look) x ≡ counted (setCount h look) walk
+  unfolding setsItemP walkOf
   sets-run =
       run-map x (counted (setCount h look)) (pick (metadataEnded look) (done (stop 2 [])) (walkP base (h .fields) (setCount h look) (setsPointer h look)))
       ∙ ap (counted (setCount h look)) (go (metadataEnded look))
@@ -163,8 +163,8 @@ module _ (x : List ℕ) (base : ℕ) (h : SdrrInfoHeader) where
         pins = run (pinsP base (h .«pins_ptr»)) x;
       }
 
-  row-items : itemsOf (run (rowP base h) x) ≡ itemsBy walk
-  unfolding rowP itemsBy
+  row-items : itemsOf (run (itemsP base h) x) ≡ itemsBy walk
+  unfolding itemsP itemsBy
   row-items = simp (run-also, sets-run)
 
   report-by : (v : ℕ) (w : Part (List RomSet)) → setsItem (setCount h look) w ≡ itemOf v (setCount h look) → reportOf h (itemsBy w) ≡ reportWith (h .fields) (recordsOf base h x) v
@@ -175,12 +175,12 @@ module _ (x : List ℕ) (base : ℕ) (h : SdrrInfoHeader) where
 
 -- the reply and both rows are the opening's
 pub record Leaves (s : Settings) (x ls lr : List ℕ) (r : Opening) (t u : List ℕ) : Type 0 where
-  pub reply : r ≡ replyOf (opening s (length ls) (length lr) x)
+  pub reply : r ≡ openingReply (opening s (length ls) (length lr) x)
   pub set-rows : t ≡ setRowsLeft (opening s (length ls) (length lr) x) ls
   pub rom-rows : u ≡ romRowsLeft (opening s (length ls) (length lr) x) lr
 
 -- with the report that a refusal has
-pub refused-by : (n : ℕ) (i : SdrrInfo) → i ≡ noReport → _≡_ {A = Opening} (record { number = n; info = i }) (refusedWith n)
+pub refused-by : (n : ℕ) (i : SdrrInfo) → i ≡ noReport → _≡_ {A = Opening} (record { number = n; info = i }) (refusedOpening n)
 refused-by n i e = rw e refl
 
 pub opened-by : (i j : SdrrInfo) → i ≡ j → _≡_ {A = Opening} (record { number = 0; info = i }) (record { number = 0; info = j })
@@ -188,14 +188,14 @@ opened-by i j e = rw e refl
 
 module _ (s : Settings) (x ls lr : List ℕ) where
   -- where the opening is o
-  leaves : (o : Opened) → opening s (length ls) (length lr) x ≡ o → (r : Opening) (t u : List ℕ) → r ≡ replyOf o → t ≡ setRowsLeft o ls → u ≡ romRowsLeft o lr → Leaves s x ls lr r t u
+  leaves : (o : Opened) → opening s (length ls) (length lr) x ≡ o → (r : Opening) (t u : List ℕ) → r ≡ openingReply o → t ≡ setRowsLeft o ls → u ≡ romRowsLeft o lr → Leaves s x ls lr r t u
   leaves o e r t u f g k = record { reply = rw e f; set-rows = rw e g; rom-rows = rw e k }
 
-  left-alone : (n : ℕ) → opening s (length ls) (length lr) x ≡ refused n → Leaves s x ls lr (refusedWith n) ls lr
-  unfolding replyOf
-  left-alone n e = leaves (refused n) e (refusedWith n) ls lr refl refl refl
+  left-alone : (n : ℕ) → opening s (length ls) (length lr) x ≡ refused n → Leaves s x ls lr (refusedOpening n) ls lr
+  unfolding openingReply
+  left-alone n e = leaves (refused n) e (refusedOpening n) ls lr refl refl refl
 
-  pub left-beyond : beyondWindow (s .«flash_base») (s .«cs0_base») x ≡ true → Leaves s x ls lr (refusedWith 1) ls lr
+  pub left-beyond : beyondWindow (s .«flash_base») (s .«cs0_base») x ≡ true → Leaves s x ls lr (refusedOpening 1) ls lr
   unfolding opening
   left-beyond e = left-alone 1 (rw e)
 
@@ -204,7 +204,7 @@ module _ (s : Settings) (x ls lr : List ℕ) where
     unfolding opening openP
     behind = rw inside (run-bind x (headerP (s .«flash_base») (s .«info_offset»)) (afterHeader s (length ls) (length lr)) ∙ ap (λ (b : HeaderAnswer). run (afterHeader s (length ls) (length lr) b) x) (sym ea))
 
-    pub left-header : (a .number ≡ 0 → ⊥) → Leaves s x ls lr (refusedWith (a .number)) ls lr
+    pub left-header : (a .number ≡ 0 → ⊥) → Leaves s x ls lr (refusedOpening (a .number)) ls lr
     left-header h = left-alone (a .number) (behind ∙ rw (ne-eqb (a .number) 0 h) (run-done x (refused (a .number))))
 
     module _ (z : a .number ≡ 0) (base : ℕ) (eb : base ≡ baseAfter (s .«flash_base») (s .«cs0_base») (a .header .fields .«stm_line»)) where
@@ -212,7 +212,7 @@ module _ (s : Settings) (x ls lr : List ℕ) where
       by-items =
           behind
           ∙ rw (eq-eqb (a .number) 0 z, ← eb)
-          (run-map x (λ t. verdict (length ls) (length lr) (a .header) (itemsOf t)) (rowP base (a .header)) ∙ ap (verdict (length ls) (length lr) (a .header)) (row-items x base (a .header)))
+          (run-map x (λ t. verdict (length ls) (length lr) (a .header) (itemsOf t)) (itemsP base (a .header)) ∙ ap (verdict (length ls) (length lr) (a .header)) (row-items x base (a .header)))
 
       module _ (c : Records) (ec : c ≡ recordsOf base (a .header) x) (v : ℕ) (t u : List ℕ) where
         abbrev w : Part (List RomSet)
@@ -226,14 +226,14 @@ module _ (s : Settings) (x ls lr : List ℕ) where
         is-walk = ap (λ (r : Records). walkOf base (a .header .fields) (r .sets) x) ec
 
         module _ (d : Walks x base (a .header .fields) (c .sets) ls lr v t u) where
-          number : v ≡ rows.replyOf w (length ls) (length lr) .number
-          number = subst (λ (p : Part (List RomSet)). v ≡ rows.replyOf p (length ls) (length lr) .number) is-walk (d .reply)
+          number : v ≡ rows.walkReply w (length ls) (length lr) .number
+          number = subst (λ (p : Part (List RomSet)). v ≡ rows.walkReply p (length ls) (length lr) .number) is-walk (d .reply)
 
-          sets-left : t ≡ rows.setRowsLeft w (length lr) ls
-          sets-left = subst (λ (p : Part (List RomSet)). t ≡ rows.setRowsLeft p (length lr) ls) is-walk (d .set-rows)
+          sets-left : t ≡ rows.walkSetRows w (length lr) ls
+          sets-left = subst (λ (p : Part (List RomSet)). t ≡ rows.walkSetRows p (length lr) ls) is-walk (d .set-rows)
 
-          roms-left : u ≡ rows.romRowsLeft w names (length ls) lr
-          roms-left = subst (λ (p : Part (List RomSet)). u ≡ rows.romRowsLeft p (run (walkNamesP base p) x) (length ls) lr) is-walk (d .rom-rows)
+          roms-left : u ≡ rows.walkRomRows w names (length ls) lr
+          roms-left = subst (λ (p : Part (List RomSet)). u ≡ rows.walkRomRows p (run (walkNamesP base p) x) (length ls) lr) is-walk (d .rom-rows)
 
           abbrev onward : Part (List RomSet) → Opened
           onward p = opened (reportOf (a .header) (itemsBy x base (a .header) p)) (setsOf p) names
@@ -245,14 +245,14 @@ module _ (s : Settings) (x ls lr : List ℕ) where
           numbered : Numbered w
           numbered = left-numbered x base (a .header .fields) (sourceOf (a .header) (look x base (a .header)))
 
-          pub left-short : isShort v ≡ true → Leaves s x ls lr (refusedWith v) t u
-          unfolding replyOf
+          pub left-short : isShort v ≡ true → Leaves s x ls lr (refusedOpening v) t u
+          unfolding openingReply
           left-short e =
               let f = short onward names ls lr v w numbered number e in
-              leaves (refused v) (by-walk ∙ f .refuses) (refusedWith v) t u refl (sets-left ∙ f .sets) (roms-left ∙ f .roms)
+              leaves (refused v) (by-walk ∙ f .refuses) (refusedOpening v) t u refl (sets-left ∙ f .sets) (roms-left ∙ f .roms)
 
           pub left-open : isShort v ≡ false → Leaves s x ls lr (record { number = 0; info = reportWith (a .header .fields) c v }) t u
-          unfolding replyOf
+          unfolding openingReply
           left-open e =
               let f = long onward names ls lr v w numbered number e in
               let r : reportWith (a .header .fields) c v ≡ reportOf (a .header) (itemsBy x base (a .header) w) =

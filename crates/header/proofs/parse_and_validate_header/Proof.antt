@@ -8,13 +8,13 @@ use Rattle.header.specs.declared.SdrrInfoHeader.{SdrrInfoHeader}
 use Rattle.header.specs.declared.HeaderAnswer.{HeaderAnswer}
 use Rattle.le.specs.Le.{u16At, startsWith}
 use Rattle.version.specs.Version.{from070}
-use Rattle.header.specs.Header.{magic, versionOf}
+use Rattle.header.specs.Header.{headerMagic, versionOf}
 use Rattle.header.specs.Laws.{header-short, header-no-magic, header-line, header-storage, header-version, header-accepted}
 use Rattle.header.proofs.parse_and_validate_header.Statement.{statement}
 use Rattle.header.proofs.parse_and_validate_header.Tie as tie
 
 -- past the second test, the magic is there
-magic-there : (c : tie.Else2) → startsWith (c .before .before .before .before .before .args .«data» .now) magic ≡ true
+magic-there : (c : tie.Else2) → startsWith (c .before .before .before .before .before .args .«data» .now) headerMagic ≡ true
 magic-there c = sym (c .before .starts-with .ensures) ∙ not-false _ (c .if2 .left)
 
 -- past the third, the line is known

@@ -2,7 +2,7 @@ use mathlib.Core.Path.{_∙_, ap}
 use borrow.Author.Needs.{needs}
 use Rattle.le.specs.Le.{flagAt}
 use Rattle.types.specs.Types.{lineOf, storageOf}
-use Rattle.header.specs.Header.{fieldsOf}
+use Rattle.header.specs.Header.{headerFields}
 use Rattle.header.proofs.read_fields.Statement.{statement}
 use Rattle.header.proofs.read_fields.Tie as tie
 
@@ -55,7 +55,7 @@ four-at-requires : tie.Need-four-at-requires
 four-at-requires c κs = search needs
 
 returns : tie.Need-returns
-unfolding fieldsOf
+unfolding headerFields
 returns c =
     let freq = c .before .before .before .before .before .before .before .before .before in
     let storage = freq .before in

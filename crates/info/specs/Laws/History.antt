@@ -13,7 +13,7 @@ use Rattle.window.specs.Window.{baseAfter, beyondWindow}
 use Rattle.prog.specs.Prog.{run}
 use Rattle.prog.specs.Laws.Run.{run-map}
 use Rattle.info.specs.Lent.{Lent}
-use Rattle.info.specs.Reads.{Bytes, noBytes, countNumber, RomRead, lengthOf, storedP, shownOf, finished, readP, Reply, replyOf, romRead, countAfter}
+use Rattle.info.specs.Reads.{Bytes, noBytes, countNumber, RomRead, lengthOf, storedP, shownOf, finished, readP, Reply, readReply, romRead, countAfter}
 
 -- the length of a read that was accepted, 0 of one that was refused
 abbrev pub acceptedLength : Reply → RomRead → ℕ
@@ -38,8 +38,8 @@ module _ (flashBase cs0Base : ℕ) (l : Lent) (x : List ℕ) where
       plain false n = omega arith
 
       go : (b : Bool) (bs : Bytes)
-          → pick b (record { number = 1; bytes = []; count = count }) (replyOf count r bs) .count
-          ≡ count + acceptedLength (pick b (record { number = 1; bytes = []; count = count }) (replyOf count r bs)) r
+          → pick b (record { number = 1; bytes = []; count = count }) (readReply count r bs) .count
+          ≡ count + acceptedLength (pick b (record { number = 1; bytes = []; count = count }) (readReply count r bs)) r
       go true bs = omega arith
       go false bs = plain (eqb (bs .number) 0) (lengthOf r)
 
@@ -76,6 +76,6 @@ module _ (flashBase cs0Base : ℕ) (l : Lent) (x : List ℕ) where
       kept true h =
           counted count r (run (storedP base l r) x) (ap (λ (t : Bytes). t .number) (sym (run-map x (finished l count r) (storedP base l r))) ∙ eqb-true _ 0 h)
 
-      go : (a : Bool) → pick {A = Reply} a (record { number = 1; bytes = []; count = count }) (replyOf count r (run (readP base l count r) x)) .count ≤ 4294967295
+      go : (a : Bool) → pick {A = Reply} a (record { number = 1; bytes = []; count = count }) (readReply count r (run (readP base l count r) x)) .count ≤ 4294967295
       go true = c
       go false = kept (eqb (run (readP base l count r) x .number) 0) refl

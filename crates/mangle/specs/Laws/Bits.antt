@@ -17,7 +17,7 @@ use Rattle.base.specs.Choice.{pick}
 use Rattle.types.specs.declared.SdrrRomType.{SdrrRomType}
 use Rattle.types.specs.declared.SdrrCsSet.{SdrrCsSet}
 use Rattle.pins.specs.declared.SdrrPins.{SdrrPins}
-use Rattle.mangle.specs.Bits.{bitAt, taken, gather}
+use Rattle.mangle.specs.Bits.{bitAt, takenBit, gather}
 use Rattle.mangle.specs.Rules.{none, isBit, controlBits, several}
 use Rattle.mangle.specs.BaseZero.{baseZero}
 use Rattle.mangle.specs.PinMap.{unmapped, withAddress, addressMap, withX, controlPins, withControl, withControls, mapNumber, wholeMap, mapBy, mapOf, pinMap}
@@ -28,8 +28,8 @@ pub bit-lt : (x i : ℕ) → bitAt x i < 2
 unfolding bitAt
 bit-lt x i = mod-lt (x / 2 ^ i) (omega arith)
 
-pub taken-lt : (x e : ℕ) → taken x e < 2
-unfolding taken
+pub taken-lt : (x e : ℕ) → takenBit x e < 2
+unfolding takenBit
 taken-lt x e = go (isBit e)
   where
     go : (b : Bool) → pick b (bitAt x e) 0 < 2
@@ -51,19 +51,19 @@ next-bit b g i h =
     rw (← one-add i, ← shr-shr (b + 2 * g) 1 i, e)
 
 -- bit p of what is gathered is what entry p takes; past the last entry it is low
-pub bit-gather : (m : List ℕ) (x p : ℕ) → bitAt (gather m x) p ≡ taken x (getD m p none)
-unfolding gather taken
+pub bit-gather : (m : List ℕ) (x p : ℕ) → bitAt (gather m x) p ≡ takenBit x (getD m p none)
+unfolding gather takenBit
 bit-gather [] x p = zero-bit p
-bit-gather (e ∷ es) x zero = first-bit (taken x e) (gather es x) (taken-lt x e)
-bit-gather (e ∷ es) x (suc p) = next-bit (taken x e) (gather es x) p (taken-lt x e) ∙ bit-gather es x p
+bit-gather (e ∷ es) x zero = first-bit (takenBit x e) (gather es x) (taken-lt x e)
+bit-gather (e ∷ es) x (suc p) = next-bit (takenBit x e) (gather es x) p (taken-lt x e) ∙ bit-gather es x p
 
 pub gather-lt : (m : List ℕ) (x : ℕ) → gather m x < 2 ^ length m
 unfolding gather
 gather-lt [] x = omega arith
 gather-lt (e ∷ es) x = rw pow-suc (let h = gather-lt es x in let k = taken-lt x e in omega arith)
 
-taken-high : (x e : ℕ) → (taken x e ≡ 1) ↔ ((isBit e ≡ true) × (bitAt x e ≡ 1))
-unfolding taken
+taken-high : (x e : ℕ) → (takenBit x e ≡ 1) ↔ ((isBit e ≡ true) × (bitAt x e ≡ 1))
+unfolding takenBit
 taken-high x e = go (isBit e)
   where
     go : (b : Bool) → (pick b (bitAt x e) 0 ≡ 1) ↔ ((b ≡ true) × (bitAt x e ≡ 1))
@@ -77,7 +77,7 @@ pin-high m word p = rw (bit-gather m word p) (taken-high word (getD m p none))
 
 -- a pin mapped to nothing is low
 pub pin-low : (m : List ℕ) (word p : ℕ) → isBit (getD m p none) ≡ false → bitAt (place m word) p ≡ 0
-unfolding taken
+unfolding takenBit
 pin-low m word p h = rw (bit-gather m word p, h)
 
 -- ---- the map has sixteen entries, so the mangled address is below 2^16
@@ -157,7 +157,7 @@ below-at n (suc i) (p ∷ ps) h e = below-at n i ps (le-of-suc-le-suc h) (both-t
 -- bit i of an accepted byte is the byte's bit at pin i
 pub demangled-bit : (pins : List ℕ) (byte i : ℕ) → i < length pins → demangle pins byte .number ≡ 0
     → bitAt (demangle pins byte .value) i ≡ bitAt byte (getD pins i none)
-unfolding demangle taken
+unfolding demangle takenBit
 demangled-bit pins byte i h = go (allBelow 8 pins) refl
   where
     go : (b : Bool) → allBelow 8 pins ≡ b → _≡_ {A = ℕ} (pick b 0 79) 0 → bitAt (pick b (gather pins byte) 0) i ≡ bitAt byte (getD pins i none)

@@ -17,9 +17,9 @@ use Rattle.types.specs.declared.SdrrRomType.{SdrrRomType}
 use Rattle.types.specs.declared.SdrrCsSet.{SdrrCsSet}
 use Rattle.pins.specs.declared.SdrrPins.{SdrrPins}
 use Rattle.mangle.specs.BaseZero.{lowered, leastPin, loweredBy, baseZero}
-use Rattle.mangle.specs.Bits.{bitAt, taken, gather}
+use Rattle.mangle.specs.Bits.{bitAt, takenBit, gather}
 use Rattle.mangle.specs.Laws.Bits.{taken-lt, bit-gather, address-length, x-length, one-length}
-use Rattle.mangle.specs.Mangle.{levels, inputWord, aboveMask, mangleNumber, answer, mangleBy, mangleOf, mangleCore}
+use Rattle.mangle.specs.Mangle.{levels, inputWord, aboveMask, mangleNumber, mangledTo, mangleBy, mangleOf, mangleCore}
 use Rattle.mangle.specs.PinMap.{unmapped, withAddress, addressMap, withX, controlPins, withControl, withControls, isMapped, mapNumber, wholeMap, mapBy, mapOf, pinMap}
 use Rattle.mangle.specs.Rules.{none, isBit, controlBits, is28C16, several}
 use Rattle.mangle.specs.Code.{onPin, onPins, allHigh, placed, isHighPin, onX, onControl, onControls, wordNumber, wholeWord, mangleWord}
@@ -75,20 +75,20 @@ top-shr p q h =
 
 pub x-lt : (v x1 x2 w : ℕ) → v < 65536 → onX v x1 x2 w < 65536
 unfolding onX
-x-lt v x1 x2 w h = on-lt (onPin v x1 (taken w 14)) x2 (taken w 15) (on-lt v x1 (taken w 14) h (taken-lt w 14)) (taken-lt w 15)
+x-lt v x1 x2 w h = on-lt (onPin v x1 (takenBit w 14)) x2 (takenBit w 15) (on-lt v x1 (takenBit w 14) h (taken-lt w 14)) (taken-lt w 15)
 
 pub control-lt : (v p b w : ℕ) → v < 65536 → onControl v p b w < 65536
 unfolding onControl
 control-lt v p b w h = go (isBit b)
   where
-    go : (c : Bool) → pick c (onPin v p (taken w b)) v < 65536
-    go true = on-lt v p (taken w b) h (taken-lt w b)
+    go : (c : Bool) → pick c (onPin v p (takenBit w b)) v < 65536
+    go true = on-lt v p (takenBit w b) h (taken-lt w b)
     go false = h
 
 pub pins-lt : (ps : List ℕ) (i w v : ℕ) → v < 65536 → onPins ps i w v < 65536
 unfolding onPins
 pins-lt [] i w v h = h
-pins-lt (p ∷ ps) i w v h = pins-lt ps (suc i) w (onPin v p (taken w i)) (on-lt v p (taken w i) h (taken-lt w i))
+pins-lt (p ∷ ps) i w v h = pins-lt ps (suc i) w (onPin v p (takenBit w i)) (on-lt v p (takenBit w i) h (taken-lt w i))
 
 -- ---- a pin against the limit, before it is lowered
 
@@ -123,28 +123,28 @@ limit-out m p b h = go (ltb m 239) (eqb p 255) refl refl h
 
 -- an entry exchanged
 exchanged : (m : List ℕ) (x p e : ℕ) → p < length m
-    → gather (set m p e) x + taken x (getD m p none) * 2 ^ p ≡ gather m x + taken x e * 2 ^ p
+    → gather (set m p e) x + takenBit x (getD m p none) * 2 ^ p ≡ gather m x + takenBit x e * 2 ^ p
 unfolding gather
 exchanged [] x p e h = absurd (not-suc-le-zero h)
 exchanged (d ∷ m) x zero e h = omega arith
 exchanged (d ∷ m) x (suc p) e h =
-    rw (pow-suc 2 p, ← mul-assoc (taken x (getD m p none)) (2 ^ p) 2, ← mul-assoc (taken x e) (2 ^ p) 2)
+    rw (pow-suc 2 p, ← mul-assoc (takenBit x (getD m p none)) (2 ^ p) 2, ← mul-assoc (takenBit x e) (2 ^ p) 2)
     (let i = exchanged m x p e (le-of-suc-le-suc h) in omega arith)
 
-none-taken : (x : ℕ) → taken x none ≡ 0
-unfolding taken
+none-taken : (x : ℕ) → takenBit x none ≡ 0
+unfolding takenBit
 none-taken x = refl
 
-pub on-gather : (m : List ℕ) (x p e : ℕ) → length m ≡ 16 → onPin (gather m x) p (taken x e) ≡ gather (set m p e) x
+pub on-gather : (m : List ℕ) (x p e : ℕ) → length m ≡ 16 → onPin (gather m x) p (takenBit x e) ≡ gather (set m p e) x
 unfolding onPin
 on-gather m x p e h = go (ltb p 16) refl
   where
     go : (c : Bool) → ltb p 16 ≡ c
-        → pick c (gather m x - bitAt (gather m x) p * 2 ^ p + taken x e * 2 ^ p) (gather m x) ≡ gather (set m p e) x
+        → pick c (gather m x - bitAt (gather m x) p * 2 ^ p + takenBit x e * 2 ^ p) (gather m x) ≡ gather (set m p e) x
     go true t =
         let k : p < length m = rw h (ltb-true p 16 t) in
         let i = exchanged m x p e k in
-        let j : gather (set m p none) x + taken x (getD m p none) * 2 ^ p ≡ gather m x + 0 * 2 ^ p = rw (none-taken x) at (exchanged m x p none k) in
+        let j : gather (set m p none) x + takenBit x (getD m p none) * 2 ^ p ≡ gather m x + 0 * 2 ^ p = rw (none-taken x) at (exchanged m x p none k) in
         rw (bit-gather m x p) (omega arith)
     go false t = ap (λ l. gather l x) (sym (set-out m p e (rw h (ltb-false p 16 t))))
 
@@ -163,7 +163,7 @@ control-gather : (m : List ℕ) (p b x : ℕ) → length m ≡ 16 → onControl 
 unfolding onControl withControl
 control-gather m p b x h = go (isBit b)
   where
-    go : (c : Bool) → pick c (onPin (gather m x) p (taken x b)) (gather m x) ≡ gather (pick c (set m p b) m) x
+    go : (c : Bool) → pick c (onPin (gather m x) p (takenBit x b)) (gather m x) ≡ gather (pick c (set m p b) m) x
     go true = on-gather m x p b h
     go false = refl
 
@@ -196,13 +196,13 @@ all-high e h =
     let d : allHigh / 2 ^ e ≡ 2 ^ suc (31 - e) - 1 = ap (λ n. n / 2 ^ e) (sym t) ∙ high (2 ^ suc (31 - e) - 1) e (ones-lt e) in
     rw (d, pow-suc 2 (31 - e)) (let z = pow-pos (31 - e) in omega arith)
 
-pub all-taken : (i : ℕ) → i < 32 → taken allHigh i ≡ 1
-unfolding taken
+pub all-taken : (i : ℕ) → i < 32 → takenBit allHigh i ≡ 1
+unfolding takenBit
 all-taken i h = rw (lt-ltb i 32 h) (all-high i h)
 
 -- a pin is high under the word of ones if an address bit is on it
 high-mapped : (m : List ℕ) (p : ℕ) → length m ≡ 16 → isHighPin (gather m allHigh) p ≡ isMapped m p
-unfolding taken
+unfolding takenBit
 high-mapped m p h = go (isBit p) refl
   where
     at : (e : ℕ) (c : Bool) → ltb e 32 ≡ c → eqb (pick c (bitAt allHigh e) 0) 1 ≡ c
@@ -224,10 +224,10 @@ number-mapped m x1 x2 controls count type h = rw (high-mapped m x1 h, high-mappe
 
 -- where the map has a number the pins do not count
 kept : (n rest x : ℕ) (l : List ℕ)
-    → answer (pick (not (eqb n 0)) n rest) (gather l x) ≡ answer (pick (not (eqb n 0)) n rest) (gather (pick (eqb n 0) l unmapped) x)
+    → mangledTo (pick (not (eqb n 0)) n rest) (gather l x) ≡ mangledTo (pick (not (eqb n 0)) n rest) (gather (pick (eqb n 0) l unmapped) x)
 kept n rest x l = go (eqb n 0) refl
   where
-    go : (c : Bool) → eqb n 0 ≡ c → answer (pick (not c) n rest) (gather l x) ≡ answer (pick (not c) n rest) (gather (pick c l unmapped) x)
+    go : (c : Bool) → eqb n 0 ≡ c → mangledTo (pick (not c) n rest) (gather l x) ≡ mangledTo (pick (not c) n rest) (gather (pick c l unmapped) x)
     go true e = refl
     go false e = rw e refl
 
@@ -249,7 +249,7 @@ word-mangles m x1 x2 controls count type address ls h =
     (kept (mapNumber m x1 x2 controls count type) (pick (aboveMask type address) 77 (pick (is28C16 type) 78 0)) w (wholeMap m x1 x2 controls count type))
 
 placed-gather : (ps : List ℕ) (x : ℕ) → onPins ps 0 x 0 ≡ gather (addressMap ps) x
-unfolding gather taken
+unfolding gather takenBit
 placed-gather ps x = pins-gather ps 0 x unmapped refl
 
 -- the address pins lowered by the least pin, the other pins as base-zero has them

@@ -6,7 +6,7 @@ use lib.Dec.{ltb, eqb}
 use borrow.Author.Needs.{needs}
 use borrow.Author.Tests.{not-true, not-false}
 use Rattle.le.specs.Le.{u8At, u32At, startsWith}
-use Rattle.metadata.specs.Metadata.{magic}
+use Rattle.metadata.specs.Metadata.{metadataMagic}
 use Rattle.metadata.specs.Laws.{metadata-short, metadata-no-magic, metadata-version, metadata-no-sets, metadata-present}
 use Rattle.metadata.proofs.parse_metadata.Statement.{statement}
 use Rattle.metadata.proofs.parse_metadata.Tie as tie
@@ -32,7 +32,7 @@ returns-2 c =
     c .refuse2 .ensures ∙ sym (metadata-no-magic _ (omega arith) (sym (c .before .before .starts-with .ensures) ∙ not-true _ (c .before .if2 .taken)))
 
 -- past the second test, the magic is there
-magic-there : (c : tie.Else2) → startsWith (c .before .before .before .before .before .args .«data» .now) magic ≡ true
+magic-there : (c : tie.Else2) → startsWith (c .before .before .before .before .before .args .«data» .now) metadataMagic ≡ true
 magic-there c = sym (c .before .starts-with .ensures) ∙ not-false _ (c .if2 .left)
 
 u32-at-requires : tie.Need-u32-at-requires

@@ -1,7 +1,7 @@
 use native.Mathlib.Omega.{arith}
 use borrow.Author.Needs.{needs}
 use Rattle.le.specs.Le.{u8At}
-use Rattle.pins.specs.Pins.{fieldsOf}
+use Rattle.pins.specs.Pins.{pinsFields}
 use Rattle.pins.proofs.read_fields.Statement.{statement}
 use Rattle.pins.proofs.read_fields.Tie as tie
 
@@ -120,7 +120,7 @@ second-addr-requires : tie.Need-second-addr-requires
 second-addr-requires c κs = search needs
 
 returns : tie.Need-returns
-unfolding fieldsOf
+unfolding pinsFields
 returns c =
     let arrays = c .before .before .before .before .before .before .before .before .before .before .before .before .before .before .before .before .before .before .before .before .before .before .before .before .before in
     let port5 = arrays .before .before .before in

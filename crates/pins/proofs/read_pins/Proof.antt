@@ -1,6 +1,6 @@
 use borrow.Author.Needs.{needs}
 use Rattle.prog.specs.Laws.Record.{pointer-refused, pointer-read}
-use Rattle.pins.specs.Pins.{refused, pinsOf, pinsP}
+use Rattle.pins.specs.Pins.{refusedPins, pinsOf, pinsP}
 use Rattle.pins.specs.Laws.{pins-front}
 use Rattle.pins.proofs.read_pins.Statement.{statement}
 use Rattle.pins.proofs.read_pins.Tie as tie
@@ -16,7 +16,7 @@ unfolding pinsP
 returns c =
     let a = c .before .before .before .before .args in
     let number = c .before .before .pointer-number in
-    pointer-refused (a .image .now) (a .base) (a .ptr) 88 refused pinsOf pins-front (number .result) (number .ensures) (c .refuse .result) (search needs) (c .refuse .ensures)
+    pointer-refused (a .image .now) (a .base) (a .ptr) 88 refusedPins pinsOf pins-front (number .result) (number .ensures) (c .refuse .result) (search needs) (c .refuse .ensures)
 
 image-from-requires : tie.Need-image-from-requires
 image-from-requires c κs = search needs
@@ -30,7 +30,7 @@ returns-2 c =
     let a = c .before .before .before .before .before .args in
     let number = c .before .before .before .pointer-number in
     let from = c .before .image-from in
-    pointer-read (a .image .now) (a .base) (a .ptr) 88 refused pinsOf pins-front (number .result) (number .ensures) (c .parse-pins .result) (search needs) (from .result .now) (from .ensures) (c .parse-pins .ensures)
+    pointer-read (a .image .now) (a .base) (a .ptr) 88 refusedPins pinsOf pins-front (number .result) (number .ensures) (c .parse-pins .result) (search needs) (from .result .now) (from .ensures) (c .parse-pins .ensures)
 
 pub read-pins-spec : {M : Type 1} → statement M
 read-pins-spec =

@@ -8,7 +8,7 @@ use lib.ListN.{take, drop}
 use Rattle.base.specs.Choice.{pick}
 use Rattle.window.specs.Window.{canRead}
 use Rattle.window.specs.Laws.{Inside, inside-true}
-use Rattle.prog.specs.Prog.{Answer, failed, got, Reads, noMore, look, Prog, done, read, unshown, _>>=_, also, mapP, orElse, fetch, andThen, readsOf, aside, answer, run, Span, taken, trace, looked, tried, triedShown}
+use Rattle.prog.specs.Prog.{Answer, failed, got, Reads, noMore, look, Prog, done, read, unshown, _>>=_, also, mapP, orElse, fetch, andThen, readsOf, aside, answer, run, Span, taken, trace, triedReads, tried, triedShown}
 use Rattle.prog.specs.Laws.Read.{answer-true, answer-false}
 
 -- ---- a program that only gives its answer; a test
@@ -129,13 +129,13 @@ module _ {A B : Type 0} (x : List ℕ) (p : Prog A) (f : A → Prog B) where
 
 -- ---- reads that are not shown
 
-looked-then : (x : List ℕ) (r s : Reads) → looked (andThen r s) x ≡ looked r x + looked s x
-unfolding looked andThen
+looked-then : (x : List ℕ) (r s : Reads) → triedReads (andThen r s) x ≡ triedReads r x + triedReads s x
+unfolding triedReads andThen
 looked-then x noMore s = simp zero-add
 looked-then x (look base a n k) s = simp (suc-add, looked-then x (k (answer x base a n)) s)
 
-pub looked-reads : {A : Type 0} (x : List ℕ) (p : Prog A) → looked (readsOf p) x ≡ tried p x
-unfolding looked readsOf tried
+pub looked-reads : {A : Type 0} (x : List ℕ) (p : Prog A) → triedReads (readsOf p) x ≡ tried p x
+unfolding triedReads readsOf tried
 looked-reads x (done a) = refl
 looked-reads x (read base a n k) = ap suc (looked-reads x (k (answer x base a n)))
 looked-reads x (unshown r p) = looked-then x r (readsOf p) ∙ rw (looked-reads x p)

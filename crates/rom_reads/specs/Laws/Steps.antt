@@ -19,7 +19,7 @@ use Rattle.pins.specs.declared.PinsItem.{PinsItem}
 use Rattle.mangle.specs.declared.Mangled.{Mangled}
 use Rattle.info.specs.declared.SdrrAddress.{SdrrAddress}
 use Rattle.info.specs.Lent.{Lent, setNumber, dataPointer, sizeOf, unvalued, sizeCall, demangleByte}
-use Rattle.info.specs.Reads.{Bytes, noBytes, dataP, countNumber, shownByte, RomRead, range, byte, physical, byteP, storedP, finished, readP, Reply, replyOf, romRead, bufferLeft}
+use Rattle.info.specs.Reads.{Bytes, noBytes, dataP, countNumber, shownByte, RomRead, range, byte, physical, byteP, storedP, finished, readP, Reply, readReply, romRead, bufferLeft}
 use Rattle.rom_reads.specs.declared.SetData.{SetData}
 use Rattle.rom_reads.specs.declared.Found.{Found}
 use Rattle.rom_reads.specs.declared.ByteRead.{ByteRead}
@@ -122,18 +122,18 @@ module _ (flashBase cs0Base : ℕ) (l : Lent) (count : ℕ) (x : List ℕ) where
   read-beyond r e = rw e
 
   read-within : (r : RomRead) → beyondWindow flashBase cs0Base x ≡ false
-      → romRead flashBase cs0Base l count r x ≡ replyOf count r (finished l count r (run (storedP (baseAfter flashBase cs0Base (l .line)) l r) x))
+      → romRead flashBase cs0Base l count r x ≡ readReply count r (finished l count r (run (storedP (baseAfter flashBase cs0Base (l .line)) l r) x))
   unfolding romRead readP
-  read-within r e = rw e (ap (replyOf count r) (run-map x (finished l count r) (storedP (baseAfter flashBase cs0Base (l .line)) l r)))
+  read-within r e = rw e (ap (readReply count r) (run-map x (finished l count r) (storedP (baseAfter flashBase cs0Base (l .line)) l r)))
 
   -- ROM data as the code has found it: the base in force, what it needs of the set, and where the bytes are
   module _ (set offset n : ℕ) (within : beyondWindow flashBase cs0Base x ≡ false) (base : ℕ) (in-force : base ≡ baseAfter flashBase cs0Base (l .line)) (d : SetData)
       (of-set : d ≡ setData (l .served) (l .setWords) set) (f : Found) (found : f ≡ foundOf x base d offset n) where
-    data-within : romRead flashBase cs0Base l count (range set offset n) x ≡ replyOf count (range set offset n) (finished l count (range set offset n) (bytesAt x n f))
+    data-within : romRead flashBase cs0Base l count (range set offset n) x ≡ readReply count (range set offset n) (finished l count (range set offset n) (bytesAt x n f))
     unfolding storedP
     data-within =
         read-within (range set offset n) within
-        ∙ ap (λ (b : Bytes). replyOf count (range set offset n) (finished l count (range set offset n) b)) (rw (found, of-set, in-force) (data-found x (baseAfter flashBase cs0Base (l .line)) (l .served) (l .setWords) set offset n))
+        ∙ ap (λ (b : Bytes). readReply count (range set offset n) (finished l count (range set offset n) b)) (rw (found, of-set, in-force) (data-found x (baseAfter flashBase cs0Base (l .line)) (l .served) (l .setWords) set offset n))
 
     pub data-refused : (f .number ≡ 0 → ⊥) → romRead flashBase cs0Base l count (range set offset n) x ≡ refusedReply (f .number) count
     unfolding finished
@@ -207,14 +207,14 @@ rawOf count b =
     (pick (ltb 4294967295 (count + 1)) (noByte 82 count) (record { number = b .number; byte = getD (b .bytes) 0 0; count = count + 1 }))
 
 module _ (l : Lent) (count set : ℕ) (a : SdrrAddress) (b : Bytes) where
-  finish-raw : byteOf (replyOf count (byte set a false) (finished l count (byte set a false) b)) ≡ rawOf count b
+  finish-raw : byteOf (readReply count (byte set a false) (finished l count (byte set a false) b)) ≡ rawOf count b
   unfolding finished countNumber shownByte
   finish-raw =
       cases (eqb (b .number) 0)
       (λ h. cases (ltb 4294967295 (count + 1)) (λ i. simp (h, i)) (λ i. simp (h, i)))
       (λ h. simp h)
 
-  finish-shown : byteOf (replyOf count (byte set a true) (finished l count (byte set a true) b)) ≡ shownFrom (l .pins) (rawOf count b) count
+  finish-shown : byteOf (readReply count (byte set a true) (finished l count (byte set a true) b)) ≡ shownFrom (l .pins) (rawOf count b) count
   unfolding finished countNumber shownByte shownFrom
   finish-shown =
       cases (eqb (b .number) 0)

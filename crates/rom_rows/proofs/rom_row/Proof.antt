@@ -1,5 +1,5 @@
 use borrow.Author.Needs.{needs}
-use Rattle.rom_rows.specs.Code.{romWords}
+use Rattle.rom_rows.specs.Code.{romRowWords}
 use Rattle.rom_rows.proofs.rom_row.Statement.{statement}
 use Rattle.rom_rows.proofs.rom_row.Tie as tie
 
@@ -31,7 +31,7 @@ cast-t11 : tie.Need-cast-t11
 cast-t11 c = search needs
 
 returns : tie.Need-returns
-unfolding romWords
+unfolding romRowWords
 returns c = cc
 
 pub rom-row-spec : {M : Type 1} → statement M

@@ -1,5 +1,5 @@
 use borrow.Author.Needs.{needs}
-use Rattle.rom_rows.specs.Code.{setWords}
+use Rattle.rom_rows.specs.Code.{setRowWords}
 use Rattle.rom_rows.proofs.set_row.Statement.{statement}
 use Rattle.rom_rows.proofs.set_row.Tie as tie
 
@@ -34,7 +34,7 @@ firmware-overrides-requires : tie.Need-firmware-overrides-requires
 firmware-overrides-requires c κs = search needs
 
 returns : tie.Need-returns
-unfolding setWords
+unfolding setRowWords
 returns c = cc
 
 pub set-row-spec : {M : Type 1} → statement M

@@ -6,12 +6,12 @@ use borrow.Author.Tests.{lt-ltb, le-ltb, not-true, not-false}
 use borrow.Author.Needs.{needs}
 use Rattle.le.specs.Le.{startsWith}
 use Rattle.runtime_info.specs.declared.RuntimeHeader.{RuntimeHeader}
-use Rattle.runtime_info.specs.Runtime.{headerOf, magic}
+use Rattle.runtime_info.specs.Runtime.{runtimeHeader, runtimeMagic}
 use Rattle.runtime_info.proofs.parse_and_validate_runtime_info.Statement.{statement}
 use Rattle.runtime_info.proofs.parse_and_validate_runtime_info.Tie as tie
 
 returns : tie.Need-returns
-unfolding headerOf
+unfolding runtimeHeader
 returns c = rw (lt-ltb _ _ (c .if1 .taken))
 
 slice-aggregate-starts-with : tie.Need-slice-aggregate-starts-with
@@ -21,26 +21,26 @@ starts-with-requires : tie.Need-starts-with-requires
 starts-with-requires c κs = search needs
 
 returns-2 : tie.Need-returns-2
-unfolding headerOf
+unfolding runtimeHeader
 returns-2 c =
-    let e : startsWith (c .before .before .before .before .before .args .«data» .now) magic ≡ false = sym (c .before .starts-with .ensures) ∙ not-true _ (c .if2 .taken) in
+    let e : startsWith (c .before .before .before .before .before .args .«data» .now) runtimeMagic ≡ false = sym (c .before .starts-with .ensures) ∙ not-true _ (c .if2 .taken) in
     rw (le-ltb _ _ (c .before .before .before .if1 .left), e)
 
 u8-at-requires : tie.Need-u8-at-requires
 u8-at-requires c κs = search needs
 
 returns-3 : tie.Need-returns-3
-unfolding headerOf
+unfolding runtimeHeader
 returns-3 c =
-    let e : startsWith (c .before .before .before .before .before .before .before .args .«data» .now) magic ≡ true =
+    let e : startsWith (c .before .before .before .before .before .before .before .args .«data» .now) runtimeMagic ≡ true =
     sym (c .before .before .before .starts-with .ensures) ∙ not-false _ (c .before .before .if2 .left) in
     let low : c .before .u8-at .result < 20 = omega arith in
     rw (le-ltb _ _ (c .before .before .before .before .before .if1 .left), e, ← c .before .u8-at .ensures, lt-ltb _ _ low)
 
 returns-4 : tie.Need-returns-4
-unfolding headerOf
+unfolding runtimeHeader
 returns-4 c =
-    let e : startsWith (c .before .before .before .before .before .before .before .before .args .«data» .now) magic ≡ true =
+    let e : startsWith (c .before .before .before .before .before .before .before .before .args .«data» .now) runtimeMagic ≡ true =
     sym (c .before .before .before .before .starts-with .ensures) ∙ not-false _ (c .before .before .before .if2 .left) in
     let over : 4294967295 < c .before .before .before .before .before .before .before .before .args .ram-base + 8 = omega arith in
     let high : 20 ≤ c .before .before .u8-at .result = omega arith in
@@ -50,9 +50,9 @@ read-head-requires : tie.Need-read-head-requires
 read-head-requires c κs = search needs
 
 returns-5 : tie.Need-returns-5
-unfolding headerOf
+unfolding runtimeHeader
 returns-5 c =
-    let e : startsWith (c .before .before .before .before .before .before .before .before .before .args .«data» .now) magic ≡ true =
+    let e : startsWith (c .before .before .before .before .before .before .before .before .before .args .«data» .now) runtimeMagic ≡ true =
     sym (c .before .before .before .before .before .starts-with .ensures) ∙ not-false _ (c .before .before .before .before .if2 .left) in
     let fits : c .before .before .before .before .before .before .before .before .before .args .ram-base + 8 ≤ 4294967295 = omega arith in
     let high : 20 ≤ c .before .before .before .u8-at .result = omega arith in

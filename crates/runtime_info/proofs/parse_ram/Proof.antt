@@ -1,7 +1,7 @@
 use mathlib.Core.Path.{ap, ap₂, sym, _∙_}
 use borrow.Author.Needs.{needs}
 use Rattle.runtime_info.specs.declared.RuntimeHeader.{RuntimeHeader}
-use Rattle.runtime_info.specs.Runtime.{withFields, fieldsOf}
+use Rattle.runtime_info.specs.Runtime.{withFields, runtimeFields}
 use Rattle.runtime_info.proofs.parse_ram.Statement.{statement}
 use Rattle.runtime_info.proofs.parse_ram.Tie as tie
 
@@ -20,7 +20,7 @@ parse-runtime-versioned-fields-requires c κs = search needs
 returns : tie.Need-returns
 returns c =
     let s = c .before .before .before .before .before .args .«data» .now in
-    ap (λ (h : RuntimeHeader). withFields h (fieldsOf s))
+    ap (λ (h : RuntimeHeader). withFields h (runtimeFields s))
     (sym (c .before .number .given .1) ∙ c .before .before .before .parse-and-validate-runtime-info .ensures)
 
 returns-2 : tie.Need-returns-2

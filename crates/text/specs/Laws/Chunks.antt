@@ -17,7 +17,7 @@ use Rattle.prog.specs.Laws.Run.{run-done, run-failed, run-got}
 use Rattle.prog.specs.Laws.Honest.{Honest, honest-done, honest-fetch, honest-pick}
 use Rattle.prog.specs.Laws.Counts.{Within, within-done, within-fetch, within-pick, within-tried}
 use Rattle.utf8.specs.Utf8.{isUtf8}
-use Rattle.text.specs.Text.{refused, bytesOf, partOf, hasNul, beforeNul, judged, chunksP, textP}
+use Rattle.text.specs.Text.{refusedText, bytesOf, partOf, hasNul, beforeNul, judged, chunksP, textP}
 use Rattle.text.specs.Laws.Nul.{clear-append, before-front, before-clear, before-shorter, before-nul, before-first}
 use Rattle.text.specs.declared.Text.{Text as Str}
 
@@ -27,7 +27,7 @@ chunks-honest : (left base offset a : ℕ) (s : List ℕ) → Honest (λ (t : St
 unfolding chunksP
 chunks-honest zero base offset a s = honest-done
 chunks-honest (suc left) base offset a s =
-    honest-fetch (refused 2) refl (λ chunk. honest-pick (hasNul chunk) honest-done (chunks-honest left base offset (a + 64) _))
+    honest-fetch (refusedText 2) refl (λ chunk. honest-pick (hasNul chunk) honest-done (chunks-honest left base offset (a + 64) _))
 
 pub text-honest : (base pointer : ℕ) → Honest (λ (t : Str). t .number ≡ 2) (textP base pointer)
 unfolding textP
@@ -39,7 +39,7 @@ chunks-within : (left base offset a : ℕ) (s : List ℕ) → Within left (chunk
 unfolding chunksP
 chunks-within zero base offset a s = within-done
 chunks-within (suc left) base offset a s =
-    within-fetch (refused 2) (λ chunk. within-pick (hasNul chunk) within-done (chunks-within left base offset (a + 64) _))
+    within-fetch (refusedText 2) (λ chunk. within-pick (hasNul chunk) within-done (chunks-within left base offset (a + 64) _))
 
 pub text-within : (base pointer : ℕ) → Within 16 (textP base pointer)
 unfolding textP
@@ -63,21 +63,21 @@ module _ (x : List ℕ) (base pointer : ℕ) where
   abbrev pub restP : ℕ → ℕ → Prog Str
   restP left n = chunksP left base (pointer - base) (pointer + n) (firstBytes n)
 
-  pub text-below : pointer < base → run (textP base pointer) x ≡ refused 3
+  pub text-below : pointer < base → run (textP base pointer) x ≡ refusedText 3
   unfolding textP
-  text-below h = rw (lt-ltb pointer base h) (run-done x (refused 3))
+  text-below h = rw (lt-ltb pointer base h) (run-done x (refusedText 3))
 
   pub text-start : base ≤ pointer → run (textP base pointer) x ≡ run (restP 16 0) x
   unfolding textP
   text-start h = rw (le-ltb pointer base h, add-zero pointer)
 
-  pub chunks-none : (n : ℕ) → run (restP 0 n) x ≡ refused 20
+  pub chunks-none : (n : ℕ) → run (restP 0 n) x ≡ refusedText 20
   unfolding chunksP
-  chunks-none n = run-done x (refused 20)
+  chunks-none n = run-done x (refusedText 20)
 
-  pub chunks-ended : (left n : ℕ) → canRead x base (pointer + n) 64 ≡ false → run (restP (suc left) n) x ≡ refused 2
+  pub chunks-ended : (left n : ℕ) → canRead x base (pointer + n) 64 ≡ false → run (restP (suc left) n) x ≡ refusedText 2
   unfolding chunksP
-  chunks-ended left n e = run-failed x base (pointer + n) 64 (refused 2) _ e
+  chunks-ended left n e = run-failed x base (pointer + n) 64 (refusedText 2) _ e
 
   first-more : (n m : ℕ) → firstBytes n ++ take m (drop (pointer - base + n) x) ≡ firstBytes (n + m)
   first-more n m = sym (take-add n m (drop (pointer - base) x) ∙ rw (drop-drop n (pointer - base) x))
@@ -95,11 +95,11 @@ module _ (x : List ℕ) (base pointer : ℕ) where
     pub chunks-found : hasNul (chunkAfter n) ≡ true
         → run (restP (suc left) n) x ≡ judged (pointer - base) (firstBytes (n + length (beforeNul (chunkAfter n))))
     unfolding chunksP
-    chunks-found h = run-got x base (pointer + n) 64 (refused 2) _ e ∙ rw (chunk-here, h) (run-done x _ ∙ ap (judged (pointer - base)) (first-found n h))
+    chunks-found h = run-got x base (pointer + n) 64 (refusedText 2) _ e ∙ rw (chunk-here, h) (run-done x _ ∙ ap (judged (pointer - base)) (first-found n h))
 
     pub chunks-next : hasNul (chunkAfter n) ≡ false → run (restP (suc left) n) x ≡ run (restP left (n + 64)) x
     unfolding chunksP
-    chunks-next h = run-got x base (pointer + n) 64 (refused 2) _ e ∙ rw (chunk-here, h, first-more n 64, add-assoc pointer n 64)
+    chunks-next h = run-got x base (pointer + n) 64 (refusedText 2) _ e ∙ rw (chunk-here, h, first-more n 64, add-assoc pointer n 64)
 
 -- ---- a string's part of the image
 
@@ -130,13 +130,13 @@ accepted-first {x} {t = t} a =
 -- accepted, or refused: then it shows offset 0 and length 0
 record Told (x : List ℕ) (base pointer : ℕ) (t : Str) : Type 0 where
   good : t .number ≡ 0 → Accepted x base pointer t
-  bad : (t .number ≡ 0 → ⊥) → t ≡ refused (t .number)
+  bad : (t .number ≡ 0 → ⊥) → t ≡ refusedText (t .number)
 
 module _ (x : List ℕ) (base pointer : ℕ) where
   abbrev Tells : Str → Type 0
   Tells t = Told x base pointer t
 
-  told-refused : (n : ℕ) → 0 < n → Tells (refused n)
+  told-refused : (n : ℕ) → 0 < n → Tells (refusedText n)
   told-refused n h = record { good = λ e. absurd (omega arith); bad = λ e. refl }
 
   module _ (from : base ≤ pointer) where
@@ -187,7 +187,7 @@ module _ (x : List ℕ) (base pointer : ℕ) where
   pub text-accepted : run (textP base pointer) x .number ≡ 0 → Accepted x base pointer (run (textP base pointer) x)
   text-accepted e = told .good e
 
-  pub text-refused : (run (textP base pointer) x .number ≡ 0 → ⊥) → run (textP base pointer) x ≡ refused (run (textP base pointer) x .number)
+  pub text-refused : (run (textP base pointer) x .number ≡ 0 → ⊥) → run (textP base pointer) x ≡ refusedText (run (textP base pointer) x .number)
   text-refused e = told .bad e
 
   -- accepted or refused, its part lies in the image

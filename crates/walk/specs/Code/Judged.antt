@@ -16,8 +16,8 @@ use Rattle.walk.specs.Walk.{RomSet, Part, stop, found, romsOf, walkP}
 use Rattle.walk.specs.Code.Passes.{setsAt, walkNumber}
 use Rattle.walk.specs.Laws.Says.{Says, accepts, refuses, walk-tells}
 
-abbrev pub refusedWith : ℕ → Walked
-refusedWith n = record { number = n; «rom_count» = 0 }
+abbrev pub refusedWalk : ℕ → Walked
+refusedWalk n = record { number = n; «rom_count» = 0 }
 
 -- a number, and the ROMs counted where it is 0
 unfoldable pub walked : ℕ → ℕ → Walked
@@ -25,7 +25,7 @@ walked n roms = record { number = n; «rom_count» = pick (eqb n 0) roms 0 }
 
 -- the walk's refusal; or 0, and how many ROMs its sets have
 unfoldable pub judgedOf : Part (List RomSet) → Walked
-judgedOf (stop n passed) = refusedWith n
+judgedOf (stop n passed) = refusedWalk n
 judgedOf (found ss) = record { number = 0; «rom_count» = length (romsOf ss) }
 
 pub walked-good : (n roms t : ℕ) → 0 ≡ n → t ≡ roms → record { number = 0; «rom_count» = t } ≡ walked n roms

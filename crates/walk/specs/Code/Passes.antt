@@ -76,8 +76,8 @@ partNumber x base filenames s = orNext (headerNumber x base s) (tableNumber x ba
 abbrev pub partRoms : List ℕ → ℕ → Bool → List ℕ → List Rom
 partRoms x base filenames s = romsAt x base filenames (u32At s 8) (u8At s 12)
 
-unfoldable pub setNumber : List ℕ → ℕ → Bool → ℕ → ℕ
-setNumber x base filenames address = pick (canRead x base address 64) (partNumber x base filenames (onFrom x base address)) 2
+unfoldable pub oneSetNumber : List ℕ → ℕ → Bool → ℕ → ℕ
+oneSetNumber x base filenames address = pick (canRead x base address 64) (partNumber x base filenames (onFrom x base address)) 2
 
 unfoldable pub setAt : List ℕ → ℕ → Bool → ℕ → RomSet
 setAt x base filenames address = setOf (onFrom x base address) (partRoms x base filenames (onFrom x base address))
@@ -90,7 +90,7 @@ after x base long address = address + strideOf long (onFrom x base address)
 unfoldable pub setsNumber : List ℕ → ℕ → Bool → Bool → ℕ → ℕ → ℕ
 setsNumber x base filenames long address zero = 0
 setsNumber x base filenames long address (suc left) =
-    orNext (setNumber x base filenames address) (setsNumber x base filenames long (after x base long address) left)
+    orNext (oneSetNumber x base filenames address) (setsNumber x base filenames long (after x base long address) left)
 
 unfoldable pub setsAt : List ℕ → ℕ → Bool → Bool → ℕ → ℕ → List RomSet
 setsAt x base filenames long address zero = []

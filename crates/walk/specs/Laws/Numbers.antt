@@ -13,7 +13,7 @@ use Rattle.header.specs.declared.SdrrInfoFields.{SdrrInfoFields}
 use Rattle.version.specs.Version.{from060}
 use Rattle.header.specs.Header.{hasFilenames}
 use Rattle.walk.specs.Walk.{RomSet, Part, stop, found, infoSize, walkP}
-use Rattle.walk.specs.Code.Passes.{orNext, infoNumber, infoPointer, romNumber, romsNumber, tableNumber, pointedNumber, configOf, overridesOf, headerNumber, partNumber, setNumber, after, setsNumber, walkNumber}
+use Rattle.walk.specs.Code.Passes.{orNext, infoNumber, infoPointer, romNumber, romsNumber, tableNumber, pointedNumber, configOf, overridesOf, headerNumber, partNumber, oneSetNumber, after, setsNumber, walkNumber}
 use Rattle.walk.specs.Laws.Says.{Says, accepts, refuses, walk-tells}
 
 either : (b : Bool) (n m : ℕ) → n ≤ 43 → m ≤ 43 → pick b n m ≤ 43
@@ -59,8 +59,8 @@ module _ (x : List ℕ) (base : ℕ) where
     unfolding partNumber
     part-below s = next _ _ (header-below s) (table-below (u8At s 12) (u32At s 8))
 
-    set-below : (address : ℕ) → setNumber x base filenames address ≤ 43
-    unfolding setNumber
+    set-below : (address : ℕ) → oneSetNumber x base filenames address ≤ 43
+    unfolding oneSetNumber
     set-below address = either (canRead x base address 64) _ _ (part-below (onFrom x base address)) (lit≤ tt)
 
     module _ (long : Bool) where

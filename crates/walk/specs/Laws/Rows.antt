@@ -11,7 +11,7 @@ use Rattle.rows.specs.Laws.{one-row-more, in-later-row}
 use Rattle.rows.specs.declared.SetWord.{SetWord}
 use Rattle.rows.specs.declared.RomWord.{RomWord}
 use Rattle.text.specs.declared.Text.{Text}
-use Rattle.text.specs.Text.{refused}
+use Rattle.text.specs.Text.{refusedText}
 use Rattle.walk.specs.Walk.{Rom, RomSet}
 use Rattle.walk.specs.Rows.{setRow, countsOf, setRowsAfter, setRows, romFront, nameWords, romRow, romRows}
 
@@ -36,7 +36,7 @@ pub rom-rows-length : (rs : List Rom) (ts : List Text) → length (romRows rs ts
 unfolding romRows
 rom-rows-length [] ts = sym (mul-zero romWidth)
 rom-rows-length (r ∷ rs) ts =
-    one-row-more (romRow r (getD ts 0 (refused 1))) (romRows rs (drop 1 ts)) romWidth (rom-row-length r (getD ts 0 (refused 1))) (length rs) (rom-rows-length rs (drop 1 ts))
+    one-row-more (romRow r (getD ts 0 (refusedText 1))) (romRows rs (drop 1 ts)) romWidth (rom-row-length r (getD ts 0 (refusedText 1))) (length rs) (rom-rows-length rs (drop 1 ts))
 
 -- the type in a ROM row and in what follows it
 type-first : (r : Rom) (t : Text) (rest : List ℕ) → typeWord (romRow r t ++ rest) 0 ≡ r .romType
@@ -58,14 +58,14 @@ type-words [] (s ∷ ss) ts us rest e i = clash (cc)
 type-words (r ∷ rs) [] ts us rest e i = clash (cc)
 type-words (r ∷ rs) (s ∷ ss) ts us rest e zero =
     let f : romFront r ≡ romFront s = cc in
-    rw (append-assoc (romRow r (getD ts 0 (refused 1))) (romRows rs (drop 1 ts)) rest, append-assoc (romRow s (getD us 0 (refused 1))) (romRows ss (drop 1 us)) rest)
-    (type-first r (getD ts 0 (refused 1)) (romRows rs (drop 1 ts) ++ rest) ∙ same-fronts r s f ∙ sym (type-first s (getD us 0 (refused 1)) (romRows ss (drop 1 us) ++ rest)))
+    rw (append-assoc (romRow r (getD ts 0 (refusedText 1))) (romRows rs (drop 1 ts)) rest, append-assoc (romRow s (getD us 0 (refusedText 1))) (romRows ss (drop 1 us)) rest)
+    (type-first r (getD ts 0 (refusedText 1)) (romRows rs (drop 1 ts) ++ rest) ∙ same-fronts r s f ∙ sym (type-first s (getD us 0 (refusedText 1)) (romRows ss (drop 1 us) ++ rest)))
 type-words (r ∷ rs) (s ∷ ss) ts us rest e (suc i) =
     let f : map romFront rs ≡ map romFront ss = cc in
-    rw (append-assoc (romRow r (getD ts 0 (refused 1))) (romRows rs (drop 1 ts)) rest, append-assoc (romRow s (getD us 0 (refused 1))) (romRows ss (drop 1 us)) rest)
-    (type-later r (getD ts 0 (refused 1)) (romRows rs (drop 1 ts) ++ rest) i
+    rw (append-assoc (romRow r (getD ts 0 (refusedText 1))) (romRows rs (drop 1 ts)) rest, append-assoc (romRow s (getD us 0 (refusedText 1))) (romRows ss (drop 1 us)) rest)
+    (type-later r (getD ts 0 (refusedText 1)) (romRows rs (drop 1 ts) ++ rest) i
     ∙ type-words rs ss (drop 1 ts) (drop 1 us) rest f i
-    ∙ sym (type-later s (getD us 0 (refused 1)) (romRows ss (drop 1 us) ++ rest) i))
+    ∙ sym (type-later s (getD us 0 (refusedText 1)) (romRows ss (drop 1 us) ++ rest) i))
 
 -- ---- the first ROM row of a set is the sum of the earlier sets' counts
 

@@ -19,7 +19,7 @@ use Rattle.header.specs.declared.SdrrInfoFields.{SdrrInfoFields}
 use Rattle.version.specs.Version.{from060}
 use Rattle.header.specs.Header.{hasFilenames}
 use Rattle.walk.specs.Walk.{Rom, RomSet, Part, stop, found, orStop, refuse, romOf, infoSize, judgeRom, romP, romsP, tableP, pointedP, extraByte, setP, stride, romsOf, setsP, walkP}
-use Rattle.walk.specs.Code.Passes.{orNext, infoNumber, infoPointer, romNumber, romAt, romsNumber, romsAt, tableNumber, pointed, pointedNumber, configOf, overridesOf, headerNumber, setOf, partNumber, partRoms, setNumber, setAt, strideOf, after, setsNumber, setsAt, walkNumber}
+use Rattle.walk.specs.Code.Passes.{orNext, infoNumber, infoPointer, romNumber, romAt, romsNumber, romsAt, tableNumber, pointed, pointedNumber, configOf, overridesOf, headerNumber, setOf, partNumber, partRoms, oneSetNumber, setAt, strideOf, after, setsNumber, setsAt, walkNumber}
 
 -- the part p: accepted with a and number 0, or refused with a number that is not 0
 pub data Says {A : Type 0} (a : A) : ℕ → Part A → Type 0 where
@@ -175,7 +175,7 @@ set-tells x base filenames s =
 sets-tells : (x : List ℕ) (left base : ℕ) (f : SdrrInfoFields) (address : ℕ) (passed : List RomSet)
     → Tells x (passed ++ setsAt x base (hasFilenames f) (from060 (f .version)) address left) (setsNumber x base (hasFilenames f) (from060 (f .version)) address left)
     (setsP left base f address passed)
-unfolding setsP setsNumber setsAt setNumber setAt
+unfolding setsP setsNumber setsAt oneSetNumber setAt
 sets-tells x zero base f address passed = rw (append-nil passed) tells-found
 sets-tells x (suc left) base f address passed =
     let l = onFrom x base address in

@@ -3,7 +3,7 @@ use native.Mathlib.Omega.{arith}
 use mathlib.Core.Path.{_≡_, _∙_, sym}
 use lib.ListN.{length, getD, drop}
 use borrow.Author.Needs.{needs}
-use Rattle.mangle.specs.Bits.{taken, gather}
+use Rattle.mangle.specs.Bits.{takenBit, gather}
 use Rattle.mangle.specs.Laws.Bits.{taken-lt}
 use Rattle.mangle.proofs.Steps.{gather-on, gather-end, with-lt}
 use Rattle.mangle.proofs.bits.gathered.Statement.{statement}
@@ -43,7 +43,7 @@ loop-again : tie.Need-loop-again Inv-loop μ-loop
 loop-again c =
     let l = c .before .before .before .before .loop in
     let a = c .before .before .before .before .before .before .args in
-    let t = taken (a .x) (getD (a .entries .now) (l .i) 0) in
+    let t = takenBit (a .x) (getD (a .entries .now) (l .i) 0) in
     let n : c .with-bit .result ≡ l .r + t * 2 ^ l .i = rw (c .with-bit .ensures, c .before .bit-of .ensures) in
     (omega arith, rw n (with-lt (l .r) t (l .i) (l .inv .1) (taken-lt (a .x) _)), rw n (gather-on (a .entries .now) (a .x) (l .r) (l .i) (omega arith) ∙ l .inv .2))
 

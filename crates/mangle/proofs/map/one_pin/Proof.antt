@@ -4,7 +4,7 @@ use mathlib.Core.Path.{_≡_, refl, sym, ap, _∙_}
 use borrow.Author.Needs.{needs}
 use borrow.Author.Tests.{le-ltb}
 use Rattle.mangle.specs.BaseZero.{lowered}
-use Rattle.mangle.specs.Bits.{taken}
+use Rattle.mangle.specs.Bits.{takenBit}
 use Rattle.mangle.specs.Laws.Bits.{taken-lt}
 use Rattle.mangle.specs.Laws.Words.{on-lt, level-on, or-on, limit-in, limit-out, all-taken}
 use Rattle.mangle.specs.Code.{onPin}
@@ -53,7 +53,7 @@ returns-2 c =
     let u = or-on (a .s .mapped) (a .pin - a .m) (q .pin-bit .result) (i .1) p in (
       rw (v, u, i .0, b .bit-of .ensures, all-taken (a .i) (s .pre .1)) refl,
       (
-        rw (v, b .bit-of .ensures) (on-lt (a .s .value) (a .pin - a .m) (taken (a .word) (a .i)) (s .pre .2) (taken-lt (a .word) (a .i))),
+        rw (v, b .bit-of .ensures) (on-lt (a .s .value) (a .pin - a .m) (takenBit (a .word) (a .i)) (s .pre .2) (taken-lt (a .word) (a .i))),
         rw u (on-lt (a .s .mapped) (a .pin - a .m) 1 (s .pre .3) (omega arith)),
       ),
     )

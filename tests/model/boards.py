@@ -1,5 +1,5 @@
 #!/usr/bin/env python3
-"""The images of the two boards of crates/fw_parser/specs/Boards.antt, field by field.
+"""The images of the two boards of crates/fw_parser/specs/Examples.antt, field by field.
 
     python3 tests/model/boards.py            says whether Boards.antt holds these images
 """
@@ -63,7 +63,7 @@ new = place(848, [
 
 
 def main():
-    text = open(os.path.join(TOP, "crates/fw_parser/specs/Boards.antt")).read()
+    text = open(os.path.join(TOP, "crates/fw_parser/specs/Examples.antt")).read()
     for name, image in (("oldImage", old), ("newImage", new)):
         held = re.search(name + r" =\s+([0-9∷\s]+)\[\]", text).group(1)
         assert bytes(int(n) for n in re.findall("[0-9]+", held)) == image, name

@@ -1,4 +1,4 @@
--- Demand 3 of the code. `replied`, `setsAfter` and `romsAfter` (fw_parser/Promises) are what `parse_flash` ensures; `romRead` is what each read
+-- Demand 3 of the code. `replied`, `setsAfter` and `romsAfter` (fw_parser/Laws/Promises) are what `parse_flash` ensures; `romRead` is what each read
 -- of rom_reads ensures, on a board that `board` makes of the report.
 -- Assumes nothing.
 use Prim.Native.Nat.{ℕ, _≤_}

@@ -1,5 +1,5 @@
 -- The opening as the code goes through it, from the records at the header's pointers and the walk's number.
--- `OpenSteps` has it that this is what the opening's definition says.
+-- Laws/Steps has it that this is what the opening's definition says.
 use Prim.Native.Nat.{ℕ}
 use mathlib.Core.Bool.{Bool, _||_}
 use mathlib.Core.List.{List, []}

@@ -1,5 +1,5 @@
 -- The sixteen-pin map as a word: bit p is the level of pin p. Each writer of the map puts its bit on its pin at once, over the bit of an
--- earlier one. WordLaws says that this comes to the map and its placing.
+-- earlier one. Laws/Words says that this comes to the map and its placing.
 use Prim.Native.Nat.{ℕ, suc, _+_, _*_, _-_, _^_}
 use mathlib.Core.Bool.{Bool, not, _&&_, _||_}
 use mathlib.Core.List.{List, [], _∷_}

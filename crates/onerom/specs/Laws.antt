@@ -1,4 +1,4 @@
--- Demand 3 for the calls that C and Rust make, in one place, and of demand 1 what a refused read leaves. (Of the opening: fw_parser/Promises.)
+-- Demand 3 for the calls that C and Rust make, in one place, and of demand 1 what a refused read leaves. (Of the opening: fw_parser/Laws/Promises.)
 -- `onerom_open` ensures: its reply is `openingOut (openCall …)`, the rows afterwards are `setRowsLeft (openCall …)` and `romRowsLeft (openCall …)`.
 -- `onerom_read_rom_set_data` ensures number, count and buffer of `dataCall …`; the byte reads those of `byteCall …`. Both are `romRead` with
 -- what the handed-back report says (`boardIn`). The image and rows of a read are lent for reading only.

@@ -12,7 +12,7 @@ pub enum McuLine {
     Rp2350,
 }
 
-// The line of a number; of one above 5, which every caller refuses first, the first line.
+// The line of a number; of one above 5, which the header does not accept, the first line.
 pub fn line_of(number: u16) -> McuLine
     ensures { λ r. ⌜ r ≡ lineOf number ⌝ }
 {
@@ -51,7 +51,7 @@ pub enum McuStorage {
     Storage2MB,
 }
 
-// The storage of a number; of one above 7, which every caller refuses first, the first storage.
+// The storage of a number; of one above 7, which the header does not accept, the first storage.
 pub fn storage_of(number: u16) -> McuStorage
     ensures { λ r. ⌜ r ≡ storageOf number ⌝ }
 {

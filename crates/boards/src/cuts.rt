@@ -1,48 +1,22 @@
-// Demand 3 on the code as it runs: an image cut short, beside the whole.
-use super::calls;
-use super::calls::Call;
-use super::calls::Reply;
+// Demand 3 on the code as it runs: an image cut short, opened beside the whole.
+use super::cut_reads;
+use super::cut_reads::Boards;
 use super::opened;
 use super::record;
 use super::report;
-use super::show;
+use super::tally;
+use super::tally::Tally;
+use super::tally::Verdict;
 use super::words;
-use board::Board;
-use fw_parser::Opening;
-use fw_parser::Settings;
-use libc::STDOUT_FILENO;
+use fw_parser::SdrrInfo;
 use rows::RomWord;
 
-// What the cuts of a board came to: cuts refused as ended, cuts that show the whole's report and rows, cuts with an item that is ended,
-// reads that a cut accepted, cuts and reads of which demand 3 does not hold; and a sum over all answers.
-struct Tally {
-    sum: u32,
-    refused: u32,
-    equal: u32,
-    ended: u32,
-    reads: u32,
-    failed: u32,
-}
-
-fn no_tally() -> Tally {
-    Tally {
-        sum: 1,
-        refused: 0,
-        equal: 0,
-        ended: 0,
-        reads: 0,
-        failed: 0,
-    }
-}
-
-fn one_more(n: u32, more: bool) -> u32 {
-    if n == 4294967295 {
-        return n;
-    }
-    if more {
-        return n + 1;
-    }
-    n
+// A cut that was opened: its length, its number and report, and the whole's report.
+struct Cut {
+    length: u32,
+    number: u8,
+    report: SdrrInfo,
+    whole: SdrrInfo,
 }
 
 // ---- items: where each starts among the report's words
@@ -211,359 +185,128 @@ fn equal_holds(
     words::same_all(roms, cut_roms)
 }
 
-fn holds(
+// A cut that is refused: as ended, below the reach, and no row is written.
+fn refusal_holds(cut_sets: &[u32], cut_roms: &[u32], number: u8, below: bool) -> bool {
+    let kept = base::both(words::is_untouched(cut_sets), words::is_untouched(cut_roms));
+    base::both(kept, base::both(below, number == 2))
+}
+
+// A cut that opens.
+fn opened_holds(
     whole: &[u32; 122],
     cut: &[u32; 122],
     sets: &[u32],
     roms: &[u32],
     cut_sets: &[u32],
     cut_roms: &[u32],
-    number: u8,
     below: bool,
 ) -> bool {
-    if number != 0 {
-        let kept = base::both(words::is_untouched(cut_sets), words::is_untouched(cut_roms));
-        return base::both(kept, base::both(below, number == 2));
-    }
     if below {
         return ended_holds(whole, cut, sets, roms, cut_sets, cut_roms);
     }
     equal_holds(whole, cut, sets, roms, cut_sets, cut_roms)
 }
 
-// ---- first reads
-
-// What a read that the cut accepted gives on the whole: the same.
-fn whole_agrees(
-    r: Reply,
-    image: &[u8],
-    board: Board,
-    sets: &[u32],
-    roms: &[u32],
-    call: Call,
-    cut_bytes: &[u8],
-    bytes: &mut [u8],
-) -> bool {
-    let w = calls::read(image, board, sets, roms, call, bytes);
-    if w.number != 0 {
-        return false;
-    }
-    if base::either(w.value != r.value, w.count != r.count) {
-        return false;
-    }
-    if call.kind != 4 {
-        return true;
-    }
-    words::same_bytes(cut_bytes, bytes)
-}
-
-// A read as the first after the cut's opening and, where it is accepted, as the first after the whole's.
-fn read_both(
-    image: &[u8],
-    cut_image: &[u8],
-    board: Board,
-    cut_board: Board,
-    sets: &[u32],
-    roms: &[u32],
-    cut_sets: &[u32],
-    cut_roms: &[u32],
-    call: Call,
-    bytes: &mut [u8],
-    cut_bytes: &mut [u8],
-    t: Tally,
-) -> Tally {
-    let r = calls::read(cut_image, cut_board, cut_sets, cut_roms, call, cut_bytes);
-    let sum = words::mix(
-        words::mix(t.sum, r.number as u32),
-        words::mix(r.value, r.count),
-    );
-    if r.number != 0 {
-        return Tally {
-            sum,
-            refused: t.refused,
-            equal: t.equal,
-            ended: t.ended,
-            reads: t.reads,
-            failed: t.failed,
-        };
-    }
-    let agrees = whole_agrees(r, image, board, sets, roms, call, cut_bytes, bytes);
-    Tally {
-        sum,
-        refused: t.refused,
-        equal: t.equal,
-        ended: t.ended,
-        reads: one_more(t.reads, true),
-        failed: one_more(t.failed, !agrees),
-    }
-}
-
-// The call as the first after an opening.
-fn first(call: Call) -> Call {
-    Call {
-        kind: call.kind,
-        levels: call.levels,
-        length: call.length,
-        set: call.set,
-        address: call.address,
-        count: 0,
-    }
-}
-
-// The same, where the call is a read and the spaces hold its bytes.
-fn try_read(
-    image: &[u8],
-    cut_image: &[u8],
-    board: Board,
-    cut_board: Board,
-    sets: &[u32],
-    roms: &[u32],
-    cut_sets: &[u32],
-    cut_roms: &[u32],
-    call: Call,
-    space: &mut [u8],
-    cut_space: &mut [u8],
-    t: Tally,
-) -> Tally {
-    let n = call.length as usize;
-    if call.kind < 4 {
-        return t;
-    }
-    if space.len() < n {
-        return t;
-    }
-    if cut_space.len() < n {
-        return t;
-    }
-    read_both(
-        image,
-        cut_image,
-        board,
-        cut_board,
-        sets,
-        roms,
-        cut_sets,
-        cut_roms,
-        first(call),
-        &mut space[..n],
-        &mut cut_space[..n],
-        t,
-    )
-}
-
-// All calls that are reads.
-fn read_all(
-    image: &[u8],
-    cut_image: &[u8],
-    board: Board,
-    cut_board: Board,
-    sets: &[u32],
-    roms: &[u32],
-    cut_sets: &[u32],
-    cut_roms: &[u32],
-    calls: &[u8],
-    n: u32,
-    space: &mut [u8],
-    cut_space: &mut [u8],
-    tally: Tally,
-) -> Tally {
-    let mut t = tally;
-    let mut left = n;
-    while left != 0 {
-        let call = calls::call_at(calls, n - left);
-        t = try_read(
-            image,
-            cut_image,
-            board,
-            cut_board,
-            sets,
-            roms,
-            cut_sets,
-            cut_roms,
-            call,
-            space,
-            cut_space,
-            t,
-        );
-        left -= 1;
-    }
-    t
-}
-
 // ---- a cut, and all cuts of a board
 
-fn counted(t: Tally, number: u8, below: bool, held: bool, sum: u32) -> Tally {
-    Tally {
-        sum: words::mix(t.sum, sum),
-        refused: one_more(t.refused, number != 0),
-        equal: one_more(t.equal, base::both(number == 0, !below)),
-        ended: one_more(t.ended, base::both(number == 0, below)),
-        reads: t.reads,
-        failed: one_more(t.failed, !held),
-    }
-}
-
-// What the opening of a cut of k bytes came to.
-fn judged(
-    t: Tally,
+// Opens the image's first bytes, so many.
+fn open(
     given: &[u8],
-    k: u32,
-    number: u8,
-    whole: &[u32; 122],
-    cut: &[u32; 122],
-    sets: &[u32],
-    roms: &[u32],
-    cut_sets: &[u32],
-    cut_roms: &[u32],
-) -> Tally {
-    let below = k < record::word(given, 9);
-    let held = holds(whole, cut, sets, roms, cut_sets, cut_roms, number, below);
-    let rows = words::mix(words::sum(cut_sets), words::sum(cut_roms));
-    let sum = words::mix(words::mix(rows, number as u32), report::sum(cut));
-    counted(t, number, below, held, sum)
-}
-
-// The reads on a cut that opened.
-fn read_cut(
-    t: Tally,
-    given: &[u8],
-    cut_image: &[u8],
-    board: Board,
-    cut_board: Board,
-    sets: &[u32],
-    roms: &[u32],
-    cut_sets: &[u32],
-    cut_roms: &[u32],
-    number: u8,
-) -> Tally {
-    if number != 0 {
-        return t;
-    }
-    let mut space = io::buffer();
-    let mut cut_space = io::buffer();
-    read_all(
-        record::image(given),
-        cut_image,
-        board,
-        cut_board,
-        sets,
-        roms,
-        cut_sets,
-        cut_roms,
-        record::calls(given),
-        record::word(given, 7),
-        &mut space,
-        &mut cut_space,
-        t,
-    )
-}
-
-// A cut of k bytes that was opened, beside the whole; then the reads.
-fn compared(
-    tally: Tally,
-    given: &[u8],
-    k: u32,
-    s: Settings,
-    o: Opening,
-    board: Board,
-    whole: &[u32; 122],
-    sets: &[u32],
-    roms: &[u32],
-    cut_sets: &[u32],
-    cut_roms: &[u32],
-) -> Tally {
-    let cut_image = record::part(record::image(given), 0, k as usize);
-    let info = o.info;
-    let report = report::words_of(info);
-    let t = judged(
-        tally,
-        given,
-        k,
-        o.number,
-        whole,
-        &report,
-        sets,
-        roms,
-        cut_sets,
-        cut_roms,
-    );
-    read_cut(
-        t,
-        given,
-        cut_image,
-        board,
-        fw_parser::board(s, info),
-        sets,
-        roms,
-        cut_sets,
-        cut_roms,
-        o.number,
-    )
-}
-
-fn cut_one(
-    tally: Tally,
-    given: &[u8],
-    k: u32,
-    s: Settings,
-    board: Board,
-    whole: &[u32; 122],
-    sets: &[u32],
-    roms: &[u32],
+    length: u32,
+    whole: SdrrInfo,
     cut_sets: &mut [u32],
     cut_roms: &mut [u32],
-) -> Tally {
-    let cut_image = record::part(record::image(given), 0, k as usize);
-    let o = opened::open(cut_image, s, cut_sets, cut_roms);
-    compared(
-        tally,
-        given,
-        k,
-        s,
-        o,
-        board,
+) -> Cut {
+    let image = record::cut_image(given, length);
+    let o = opened::open(image, opened::settings(given), cut_sets, cut_roms);
+    let report = o.info;
+    Cut {
+        length,
+        number: o.number,
+        report,
         whole,
-        sets,
-        roms,
-        cut_sets,
-        cut_roms,
-    )
+    }
 }
 
-fn show_tally(t: Tally, cuts: u32) {
-    if t.failed == 0 {
-        io::write_all(STDOUT_FILENO, b"demand 3 holds:");
+// What the opening of a cut came to.
+fn judged(
+    c: Cut,
+    given: &[u8],
+    sets: &[u32],
+    roms: &[u32],
+    cut_sets: &[u32],
+    cut_roms: &[u32],
+) -> Verdict {
+    let below = c.length < record::word(given, 9);
+    let shown = c.whole;
+    let whole = report::words_of(shown);
+    let cut_shown = c.report;
+    let cut = report::words_of(cut_shown);
+    let held = if c.number != 0 {
+        refusal_holds(cut_sets, cut_roms, c.number, below)
     } else {
-        io::write_all(STDOUT_FILENO, b"demand 3 FAILS:");
+        opened_holds(&whole, &cut, sets, roms, cut_sets, cut_roms, below)
+    };
+    let rows = words::mix(words::sum(cut_sets), words::sum(cut_roms));
+    Verdict {
+        number: c.number,
+        below,
+        held,
+        sum: words::mix(words::mix(rows, c.number as u32), report::sum(&cut)),
     }
-    show::next(t.failed);
-    show::next(cuts);
-    show::next(t.refused);
-    show::next(t.ended);
-    show::next(t.equal);
-    show::next(t.reads);
-    show::next(t.sum);
-    show::end();
+}
+
+fn boards(c: Cut, given: &[u8]) -> Boards {
+    let s = opened::settings(given);
+    let shown = c.whole;
+    let cut_shown = c.report;
+    Boards {
+        length: c.length,
+        whole: fw_parser::board(s, shown),
+        cut: fw_parser::board(s, cut_shown),
+    }
+}
+
+// The opening beside the whole's; then, where it is not refused, the reads.
+fn compared(
+    c: Cut,
+    given: &[u8],
+    sets: &[u32],
+    roms: &[u32],
+    cut_sets: &[u32],
+    cut_roms: &[u32],
+    tally: Tally,
+) -> Tally {
+    let v = judged(c, given, sets, roms, cut_sets, cut_roms);
+    let t = tally::with_cut(tally, v);
+    if c.number != 0 {
+        return t;
+    }
+    cut_reads::run(boards(c, given), given, sets, roms, cut_sets, cut_roms, t)
 }
 
 // The cuts, whose lengths stand behind the calls.
 pub(crate) fn run(
     given: &[u8],
-    s: Settings,
-    board: Board,
-    whole: &[u32; 122],
+    whole: SdrrInfo,
     sets: &[u32],
     roms: &[u32],
     cut_sets: &mut [u32],
     cut_roms: &mut [u32],
 ) {
     let n = record::cuts(given);
-    let mut t = no_tally();
+    let mut t = tally::none();
     let mut left = n;
     while left != 0 {
-        let k = record::cut(given, n - left);
-        t = cut_one(t, given, k, s, board, whole, sets, roms, cut_sets, cut_roms);
+        let c = open(
+            given,
+            record::cut(given, n - left),
+            whole,
+            cut_sets,
+            cut_roms,
+        );
+        t = compared(c, given, sets, roms, cut_sets, cut_roms, t);
         left -= 1;
     }
-    show_tally(t, n);
+    tally::show(t, n);
 }

@@ -25,7 +25,7 @@ fn board(given: &[u8]) -> Board {
 }
 
 // The rows stand behind the pins, and the calls behind the rows.
-fn run_rows(given: &[u8], sets: &mut [u32], roms: &mut [u32]) {
+pub(crate) fn run(given: &[u8], sets: &mut [u32], roms: &mut [u32]) {
     let rows = record::from(record::rest(given), 88);
     let rom_rows = record::from(rows, 4 * (record::word(given, 4) as usize));
     let calls = record::from(rom_rows, 4 * (record::word(given, 5) as usize));
@@ -33,16 +33,4 @@ fn run_rows(given: &[u8], sets: &mut [u32], roms: &mut [u32]) {
     words::load(roms, rom_rows);
     let image = record::image(given);
     calls::run_all(image, board(given), sets, roms, calls);
-}
-
-pub(crate) fn run(given: &[u8], sets: &mut [u32], roms: &mut [u32]) {
-    let n = record::word(given, 4) as usize;
-    let m = record::word(given, 5) as usize;
-    if sets.len() < n {
-        return;
-    }
-    if roms.len() < m {
-        return;
-    }
-    run_rows(given, &mut sets[..n], &mut roms[..m]);
 }

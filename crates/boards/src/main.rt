@@ -1,6 +1,7 @@
 // Runs the boards of tests/model/make_boards.py: a board to a record of standard input, its answers to lines of standard output, which
 // `rt check` compares with the expected lines beside it.
 mod calls;
+mod cut_reads;
 mod cuts;
 mod lent;
 mod opened;
@@ -8,6 +9,7 @@ mod packed;
 mod record;
 mod report;
 mod show;
+mod tally;
 mod words;
 
 use libc::STDIN_FILENO;
@@ -26,12 +28,25 @@ fn read_record(space: &mut [u8]) -> usize {
     io::read_full(STDIN_FILENO, &mut space[..n])
 }
 
-fn run_record(given: &[u8], sets: &mut [u32], roms: &mut [u32]) {
+fn run_rows(given: &[u8], sets: &mut [u32], roms: &mut [u32]) {
     if record::word(given, 0) == 76 {
         lent::run(given, sets, roms);
     } else {
         opened::run(given, sets, roms);
     }
+}
+
+// The rows have the lengths in words 4 and 5.
+fn run_record(given: &[u8], sets: &mut [u32], roms: &mut [u32]) {
+    let n = record::word(given, 4) as usize;
+    let m = record::word(given, 5) as usize;
+    if sets.len() < n {
+        return;
+    }
+    if roms.len() < m {
+        return;
+    }
+    run_rows(given, &mut sets[..n], &mut roms[..m]);
 }
 
 fn run_packed(packed: &[u8], roms: &mut [u32]) {

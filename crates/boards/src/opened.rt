@@ -11,7 +11,7 @@ use fw_parser::SdrrInfo;
 use fw_parser::Settings;
 use rows::SetWord;
 
-fn settings(given: &[u8]) -> Settings {
+pub(crate) fn settings(given: &[u8]) -> Settings {
     Settings {
         flash_base: record::word(given, 1),
         cs0_base: record::word(given, 2),
@@ -95,16 +95,11 @@ fn run_cuts(given: &[u8], info: SdrrInfo, sets: &[u32], roms: &[u32]) {
     if 4096 < m {
         return;
     }
-    let report = report::words_of(info);
-    let s = settings(given);
-    let b = fw_parser::board(s, info);
     let mut cut_sets = words::set_space();
     let mut cut_roms = words::set_space();
     cuts::run(
         given,
-        s,
-        b,
-        &report,
+        info,
         sets,
         roms,
         &mut cut_sets[..n],
@@ -113,23 +108,10 @@ fn run_cuts(given: &[u8], info: SdrrInfo, sets: &[u32], roms: &[u32]) {
 }
 
 // Opens the image, and each of its cuts.
-fn run_rows(given: &[u8], sets: &mut [u32], roms: &mut [u32]) {
+pub(crate) fn run(given: &[u8], sets: &mut [u32], roms: &mut [u32]) {
     let s = settings(given);
     let o = open(record::image(given), s, sets, roms);
     let info = o.info;
     show_opening(given, fw_parser::board(s, info), o, sets, roms);
     run_cuts(given, info, sets, roms);
-}
-
-// The rows have the lengths in words 4 and 5.
-pub(crate) fn run(given: &[u8], sets: &mut [u32], roms: &mut [u32]) {
-    let n = record::word(given, 4) as usize;
-    let m = record::word(given, 5) as usize;
-    if sets.len() < n {
-        return;
-    }
-    if roms.len() < m {
-        return;
-    }
-    run_rows(given, &mut sets[..n], &mut roms[..m]);
 }

@@ -11,26 +11,6 @@ fn put(to: &mut [u8], at: usize, b: u8) -> usize {
     at + 1
 }
 
-fn copy(to: &mut [u8], at: usize, from: &[u8]) -> usize {
-    let mut end = at;
-    let mut i = 0;
-    while i < from.len() {
-        end = put(to, end, from[i]);
-        i += 1;
-    }
-    end
-}
-
-fn repeat(to: &mut [u8], at: usize, b: u8, n: u8) -> usize {
-    let mut end = at;
-    let mut left = n;
-    while left != 0 {
-        end = put(to, end, b);
-        left -= 1;
-    }
-    end
-}
-
 // How many packed bytes the step takes that starts with c.
 fn width(c: u8) -> usize
     ensures { λ r. ⌜ (0 < r) × (r < 130) ⌝ }
@@ -41,13 +21,33 @@ fn width(c: u8) -> usize
     2
 }
 
+// How many bytes the step gives that starts with c.
+fn count(c: u8) -> u8 {
+    if c < 128 {
+        return c + 1;
+    }
+    c - 125
+}
+
+// The byte i of a step.
+fn byte(packed: &[u8], c: u8, i: u8) -> u8 {
+    if c < 128 {
+        return le::u8_at(packed, i as usize + 1);
+    }
+    le::u8_at(packed, 1)
+}
+
 // The bytes of one step.
 fn step(to: &mut [u8], at: usize, packed: &[u8]) -> usize {
     let c = le::u8_at(packed, 0);
-    if c < 128 {
-        return copy(to, at, record::part(packed, 1, c as usize + 1));
+    let n = count(c);
+    let mut end = at;
+    let mut left = n;
+    while left != 0 {
+        end = put(to, end, byte(packed, c, n - left));
+        left -= 1;
     }
-    repeat(to, at, le::u8_at(packed, 1), c - 125)
+    end
 }
 
 // Unpacks all, and says how many bytes there are.

@@ -53,6 +53,11 @@ pub(crate) fn cut(record: &[u8], k: u32) -> u32 {
     le::u32_at(rest(record), from + 4 * (k as usize))
 }
 
+// The image cut short to so many bytes; none where it does not have them.
+pub(crate) fn cut_image(record: &[u8], n: u32) -> &[u8] {
+    part(image(record), 0, n as usize)
+}
+
 // The bytes from an index on.
 pub(crate) fn from(bytes: &[u8], at: usize) -> &[u8] {
     if bytes.len() < at {

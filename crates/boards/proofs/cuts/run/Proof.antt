@@ -6,16 +6,16 @@ use Rattle.boards.proofs.cuts.run.Statement.{statement}
 use Rattle.boards.proofs.cuts.run.Tie as tie
 
 abbrev Inv-loop : tie.InvT-loop
-Inv-loop given s board whole sets roms cut-sets₀ cut-roms₀ n t₀ left₀ cut-sets cut-roms t left = (left ≤ n) × (length cut-sets ≡ length cut-sets₀) × (length cut-roms ≡ length cut-roms₀)
+Inv-loop given whole sets roms cut-sets₀ cut-roms₀ n t₀ left₀ cut-sets cut-roms t left = (left ≤ n) × (length cut-sets ≡ length cut-sets₀) × (length cut-roms ≡ length cut-roms₀)
 
 abbrev μ-loop : tie.MeasureT-loop
-μ-loop given s board whole sets roms cut-sets₀ cut-roms₀ n t₀ left₀ cut-sets cut-roms t left = left
+μ-loop given whole sets roms cut-sets₀ cut-roms₀ n t₀ left₀ cut-sets cut-roms t left = left
 
 cuts-requires : tie.Need-cuts-requires Inv-loop μ-loop
 cuts-requires c κs = search needs
 
-no-tally-requires : tie.Need-no-tally-requires Inv-loop μ-loop
-no-tally-requires c κs = search needs
+none-requires : tie.Need-none-requires Inv-loop μ-loop
+none-requires c κs = search needs
 
 loop-holds : tie.Need-loop-holds Inv-loop μ-loop
 loop-holds c = search needs
@@ -26,8 +26,11 @@ sub-cut c = search needs
 cut-requires : tie.Need-cut-requires Inv-loop μ-loop
 cut-requires c κs = search needs
 
-cut-one-requires : tie.Need-cut-one-requires Inv-loop μ-loop
-cut-one-requires c κs = search needs
+open-requires : tie.Need-open-requires Inv-loop μ-loop
+open-requires c κs = search needs
+
+compared-requires : tie.Need-compared-requires Inv-loop μ-loop
+compared-requires c κs = search needs
 
 sub-left : tie.Need-sub-left Inv-loop μ-loop
 sub-left c = search needs
@@ -38,8 +41,8 @@ loop-less c = search needs
 loop-again : tie.Need-loop-again Inv-loop μ-loop
 loop-again c = search needs
 
-show-tally-requires : tie.Need-show-tally-requires Inv-loop μ-loop
-show-tally-requires c κs = search needs
+show-requires : tie.Need-show-requires Inv-loop μ-loop
+show-requires c κs = search needs
 
 same-length : tie.Need-same-length Inv-loop μ-loop
 same-length c = search needs
@@ -57,15 +60,16 @@ run-spec =
     Inv-loop
     μ-loop
     cuts-requires
-    no-tally-requires
+    none-requires
     loop-holds
     sub-cut
     cut-requires
-    cut-one-requires
+    open-requires
+    compared-requires
     sub-left
     loop-less
     loop-again
-    show-tally-requires
+    show-requires
     same-length
     same-length-2
     returns)

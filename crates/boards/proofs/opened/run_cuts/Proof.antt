@@ -16,15 +16,6 @@ returns-2 c = search needs
 returns-3 : tie.Need-returns-3
 returns-3 c = search needs
 
-words-of-requires : tie.Need-words-of-requires
-words-of-requires c κs = search needs
-
-settings-requires : tie.Need-settings-requires
-settings-requires c κs = search needs
-
-board-requires : tie.Need-board-requires
-board-requires c κs = search needs
-
 set-space-requires : tie.Need-set-space-requires
 set-space-requires c κs = search needs
 
@@ -57,9 +48,6 @@ run-cuts-spec =
     returns
     returns-2
     returns-3
-    words-of-requires
-    settings-requires
-    board-requires
     set-space-requires
     set-space-requires-2
     array-borrow-prefix-cut-sets

@@ -1,8 +1,8 @@
 use mathlib.Core.Path.{sym}
 use lib.Seq.{length-take-le}
 use borrow.Author.Needs.{needs}
-use Rattle.boards.proofs.opened.run.Statement.{statement}
-use Rattle.boards.proofs.opened.run.Tie as tie
+use Rattle.boards.proofs.run_record.Statement.{statement}
+use Rattle.boards.proofs.run_record.Tie as tie
 
 word-requires : tie.Need-word-requires
 word-requires c κs = search needs
@@ -46,8 +46,8 @@ same-length-2 c = search needs
 returns-3 : tie.Need-returns-3
 returns-3 c = search needs
 
-pub run-spec : {M : Type 1} → statement M
-run-spec =
+pub run-record-spec : {M : Type 1} → statement M
+run-record-spec =
     tie.close
     (tie.spec
     word-requires

@@ -1,11 +1,13 @@
-// The runtime record as 25 words, for C and Rust.
+// The runtime record as 25 words, for C and Rust, and the call that hands them out.
 ghost use mathlib.Core.Path.{_≡_};
-ghost use Rattle.runtime_info.specs.Words.{bit, headWords, words060, words062, words063, words067, runtimeWords};
+ghost use Rattle.runtime_info.specs.Runtime.{runtimeOf};
+ghost use Rattle.runtime_info.specs.Words.{numberOf, wordsAfter, bit, headWords, words060, words062, words063, words067, runtimeWords};
 use runtime_info::GroupV060;
 use runtime_info::GroupV062;
 use runtime_info::GroupV063;
 use runtime_info::GroupV067;
 use runtime_info::RuntimeVersionedFields;
+use runtime_info::SdrrRuntimeInfo;
 use runtime_info::SdrrRuntimeInfoHeader;
 
 fn bit_of(b: bool) -> u32
@@ -117,4 +119,18 @@ pub fn runtime_words(h: SdrrRuntimeInfoHeader, f: RuntimeVersionedFields) -> [u3
         e[1],
         e[2],
     ]
+}
+
+// The call for C and Rust: a refusal leaves the lent words.
+pub fn runtime_call(record: &[u8], ram_base: u32, words: &mut [u32; 25]) -> u32
+    ensures reply { λ r. ⌜ r ≡ numberOf (runtimeOf (now («record» .entry)) «ram_base») ⌝ }
+    ensures words { λ r. ⌜ now (words .exit) ≡ wordsAfter (runtimeOf (now («record» .entry)) «ram_base») (now (words .entry)) ⌝ }
+{
+    match runtime_info::parse_ram(record, ram_base) {
+        SdrrRuntimeInfo::Refused(number) => number as u32,
+        SdrrRuntimeInfo::Parsed(head, fields) => {
+            *words = runtime_words(head, fields);
+            0
+        }
+    }
 }

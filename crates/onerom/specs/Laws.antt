@@ -30,8 +30,8 @@ use Rattle.c_board.specs.Board.{addressFrom}
 use Rattle.c_report.specs.declared.OneromReport.{OneromReport}
 use Rattle.c_report.specs.Report.{reportOut, boardIn}
 use Rattle.c_report.specs.Laws.{handed-back}
-use Rattle.onerom.specs.Opening.{openCall}
-use Rattle.onerom.specs.Reads.{dataCall, byteCall}
+use Rattle.c_open.specs.Opening.{openCall}
+use Rattle.c_reads.specs.Reads.{dataCall, byteCall}
 
 -- ---- the reads as they are called: each is a `romRead` by the report and rows as lent
 

@@ -1,17 +1,9 @@
 // The opening, for C and Rust.
-use c_report::OneromReport;
-use fw_parser::Settings;
+use c_open::OneromOpening;
 ghost use mathlib.Core.Path.{_≡_};
 ghost use lib.ListN.{length};
 ghost use Rattle.fw_parser.specs.Opening.{setRowsLeft, romRowsLeft};
-ghost use Rattle.onerom.specs.Opening.{openCall, openingOut};
-
-// 0 and the report, or the number of the refusal and a fixed report: zeros, but extra info's PIO flag and runtime pointer as where it is refused.
-#[repr(C)]
-pub struct OneromOpening {
-    pub number: u32,
-    pub report: OneromReport,
-}
+ghost use Rattle.c_open.specs.Opening.{openCall, openingOut};
 
 #[no_mangle]
 pub extern "C" fn onerom_open(
@@ -26,16 +18,5 @@ pub extern "C" fn onerom_open(
     ensures sets { λ r. ⌜ now («set_rows» .exit) ≡ setRowsLeft (openCall «flash_base» «cs0_base» «info_offset» (length (now («set_rows» .entry))) (length (now («rom_rows» .entry))) (now (image .entry))) (now («set_rows» .entry)) ⌝ }
     ensures roms { λ r. ⌜ now («rom_rows» .exit) ≡ romRowsLeft (openCall «flash_base» «cs0_base» «info_offset» (length (now («set_rows» .entry))) (length (now («rom_rows» .entry))) (now (image .entry))) (now («rom_rows» .entry)) ⌝ }
 {
-    let settings = Settings {
-        flash_base,
-        cs0_base,
-        info_offset,
-    };
-    let o = fw_parser::parse_flash(image, settings, set_rows, rom_rows);
-    let info = o.info;
-    let report = c_report::report_out(info);
-    OneromOpening {
-        number: o.number as u32,
-        report,
-    }
+    c_open::open_call(image, flash_base, cs0_base, info_offset, set_rows, rom_rows)
 }

@@ -6,8 +6,8 @@ ghost use lib.ListN.{length};
 ghost use Rattle.info.specs.Lent.{sizeCall};
 ghost use Rattle.info.specs.Same.{sameSet};
 ghost use Rattle.info.specs.Reads.{bufferLeft};
-ghost use Rattle.onerom.specs.Board.{valueAfter};
-ghost use Rattle.onerom.specs.Reads.{dataCall, byteCall};
+ghost use Rattle.c_board.specs.Value.{valueAfter};
+ghost use Rattle.c_reads.specs.Reads.{dataCall, byteCall};
 
 #[no_mangle]
 pub extern "C" fn onerom_get_rom_set_size(
@@ -19,12 +19,7 @@ pub extern "C" fn onerom_get_rom_set_size(
     ensures reply { λ r. ⌜ r ≡ sizeCall served (now («set_rows» .entry)) set .number ⌝ }
     ensures value { λ r. ⌜ now (value .exit) ≡ valueAfter r (sizeCall served (now («set_rows» .entry)) set .value) (now (value .entry)) ⌝ }
 {
-    let s = rom_reads::get_rom_set_size(served, set_rows, set);
-    if s.number != 0 {
-        return s.number as u32;
-    }
-    *value = s.value;
-    0
+    c_calls::size_call(served, set_rows, set, value)
 }
 
 #[no_mangle]
@@ -39,12 +34,7 @@ pub extern "C" fn onerom_same_set(
     ensures reply { λ r. ⌜ r ≡ sameSet served (now («set_rows» .entry)) (now («rom_rows» .entry)) a b .number ⌝ }
     ensures value { λ r. ⌜ now (value .exit) ≡ valueAfter r (sameSet served (now («set_rows» .entry)) (now («rom_rows» .entry)) a b .value) (now (value .entry)) ⌝ }
 {
-    let same = same_set::same_set(served, set_rows, rom_rows, a, b);
-    if same.number != 0 {
-        return same.number as u32;
-    }
-    *value = same.value;
-    0
+    c_calls::same_call(served, set_rows, rom_rows, a, b, value)
 }
 
 #[no_mangle]
@@ -63,11 +53,17 @@ pub extern "C" fn onerom_read_rom_set_data(
     ensures buffer { λ r. ⌜ now (buffer .exit) ≡ bufferLeft (dataCall «flash_base» «cs0_base» report (now («set_rows» .entry)) set offset (length (now (buffer .entry))) (now (count .entry)) (now (image .entry))) (now (buffer .entry)) ⌝ }
     ensures count { λ r. ⌜ now (count .exit) ≡ dataCall «flash_base» «cs0_base» report (now («set_rows» .entry)) set offset (length (now (buffer .entry))) (now (count .entry)) (now (image .entry)) .count ⌝ }
 {
-    let board = c_report::board_in(flash_base, cs0_base, report);
-    let before = *count;
-    let stored = rom_reads::read_rom_set_data(image, board, set_rows, set, offset, buffer, before);
-    *count = stored.count;
-    stored.number as u32
+    c_reads::data_call(
+        image,
+        flash_base,
+        cs0_base,
+        report,
+        set_rows,
+        set,
+        offset,
+        buffer,
+        count,
+    )
 }
 
 #[no_mangle]
@@ -89,15 +85,20 @@ pub extern "C" fn onerom_read_rom_byte_raw(
     ensures count { λ r. ⌜ now (count .exit) ≡ byteCall false «flash_base» «cs0_base» report (now («set_rows» .entry)) (now («rom_rows» .entry)) set logical address (now (levels .entry)) (now (count .entry)) (now (image .entry)) .count ⌝ }
     ensures value { λ r. ⌜ now (value .exit) ≡ valueAfter r (byteCall false «flash_base» «cs0_base» report (now («set_rows» .entry)) (now («rom_rows» .entry)) set logical address (now (levels .entry)) (now (count .entry)) (now (image .entry)) .byte) (now (value .entry)) ⌝ }
 {
-    let board = c_report::board_in(flash_base, cs0_base, report);
-    let at = c_board::address_from(logical, address, *levels);
-    let raw = rom_reads::read_rom_byte_raw(image, board, set_rows, rom_rows, set, at, *count);
-    *count = raw.count;
-    if raw.number != 0 {
-        return raw.number as u32;
-    }
-    *value = raw.byte;
-    0
+    c_reads::raw_byte_call(
+        image,
+        flash_base,
+        cs0_base,
+        report,
+        set_rows,
+        rom_rows,
+        set,
+        logical,
+        address,
+        levels,
+        count,
+        value,
+    )
 }
 
 #[no_mangle]
@@ -119,21 +120,18 @@ pub extern "C" fn onerom_read_rom_byte_demangled(
     ensures count { λ r. ⌜ now (count .exit) ≡ byteCall true «flash_base» «cs0_base» report (now («set_rows» .entry)) (now («rom_rows» .entry)) set logical address (now (levels .entry)) (now (count .entry)) (now (image .entry)) .count ⌝ }
     ensures value { λ r. ⌜ now (value .exit) ≡ valueAfter r (byteCall true «flash_base» «cs0_base» report (now («set_rows» .entry)) (now («rom_rows» .entry)) set logical address (now (levels .entry)) (now (count .entry)) (now (image .entry)) .byte) (now (value .entry)) ⌝ }
 {
-    let board = c_report::board_in(flash_base, cs0_base, report);
-    let at = c_board::address_from(logical, address, *levels);
-    let shown = rom_reads::read_rom_byte_demangled(
+    c_reads::demangled_byte_call(
         image,
-        board,
+        flash_base,
+        cs0_base,
+        report,
         set_rows,
         rom_rows,
         set,
-        at,
-        *count,
-    );
-    *count = shown.count;
-    if shown.number != 0 {
-        return shown.number as u32;
-    }
-    *value = shown.byte;
-    0
+        logical,
+        address,
+        levels,
+        count,
+        value,
+    )
 }

@@ -1,0 +1,96 @@
+// ROM data and the byte reads as C and Rust call them: by a report handed back.
+use c_report::OneromReport;
+ghost use mathlib.Core.Path.{_≡_};
+ghost use mathlib.Core.Bool.{true, false};
+ghost use lib.ListN.{length};
+ghost use Rattle.info.specs.Reads.{bufferLeft};
+ghost use Rattle.c_board.specs.Value.{valueAfter};
+ghost use Rattle.c_reads.specs.Reads.{dataCall, byteCall};
+
+pub fn data_call(
+    image: &[u8],
+    flash_base: u32,
+    cs0_base: u32,
+    report: OneromReport,
+    set_rows: &[u32],
+    set: u32,
+    offset: u32,
+    buffer: &mut [u8],
+    count: &mut u32,
+) -> u32
+    ensures reply { λ r. ⌜ r ≡ dataCall «flash_base» «cs0_base» report (now («set_rows» .entry)) set offset (length (now (buffer .entry))) (now (count .entry)) (now (image .entry)) .number ⌝ }
+    ensures buffer { λ r. ⌜ now (buffer .exit) ≡ bufferLeft (dataCall «flash_base» «cs0_base» report (now («set_rows» .entry)) set offset (length (now (buffer .entry))) (now (count .entry)) (now (image .entry))) (now (buffer .entry)) ⌝ }
+    ensures count { λ r. ⌜ now (count .exit) ≡ dataCall «flash_base» «cs0_base» report (now («set_rows» .entry)) set offset (length (now (buffer .entry))) (now (count .entry)) (now (image .entry)) .count ⌝ }
+{
+    let board = c_report::board_in(flash_base, cs0_base, report);
+    let before = *count;
+    let stored = rom_reads::read_rom_set_data(image, board, set_rows, set, offset, buffer, before);
+    *count = stored.count;
+    stored.number as u32
+}
+
+pub fn raw_byte_call(
+    image: &[u8],
+    flash_base: u32,
+    cs0_base: u32,
+    report: OneromReport,
+    set_rows: &[u32],
+    rom_rows: &[u32],
+    set: u32,
+    logical: u8,
+    address: u32,
+    levels: &[u8; 5],
+    count: &mut u32,
+    value: &mut u8,
+) -> u32
+    ensures reply { λ r. ⌜ r ≡ byteCall false «flash_base» «cs0_base» report (now («set_rows» .entry)) (now («rom_rows» .entry)) set logical address (now (levels .entry)) (now (count .entry)) (now (image .entry)) .number ⌝ }
+    ensures count { λ r. ⌜ now (count .exit) ≡ byteCall false «flash_base» «cs0_base» report (now («set_rows» .entry)) (now («rom_rows» .entry)) set logical address (now (levels .entry)) (now (count .entry)) (now (image .entry)) .count ⌝ }
+    ensures value { λ r. ⌜ now (value .exit) ≡ valueAfter r (byteCall false «flash_base» «cs0_base» report (now («set_rows» .entry)) (now («rom_rows» .entry)) set logical address (now (levels .entry)) (now (count .entry)) (now (image .entry)) .byte) (now (value .entry)) ⌝ }
+{
+    let board = c_report::board_in(flash_base, cs0_base, report);
+    let at = c_board::address_from(logical, address, *levels);
+    let raw = rom_reads::read_rom_byte_raw(image, board, set_rows, rom_rows, set, at, *count);
+    *count = raw.count;
+    if raw.number != 0 {
+        return raw.number as u32;
+    }
+    *value = raw.byte;
+    0
+}
+
+pub fn demangled_byte_call(
+    image: &[u8],
+    flash_base: u32,
+    cs0_base: u32,
+    report: OneromReport,
+    set_rows: &[u32],
+    rom_rows: &[u32],
+    set: u32,
+    logical: u8,
+    address: u32,
+    levels: &[u8; 5],
+    count: &mut u32,
+    value: &mut u8,
+) -> u32
+    ensures reply { λ r. ⌜ r ≡ byteCall true «flash_base» «cs0_base» report (now («set_rows» .entry)) (now («rom_rows» .entry)) set logical address (now (levels .entry)) (now (count .entry)) (now (image .entry)) .number ⌝ }
+    ensures count { λ r. ⌜ now (count .exit) ≡ byteCall true «flash_base» «cs0_base» report (now («set_rows» .entry)) (now («rom_rows» .entry)) set logical address (now (levels .entry)) (now (count .entry)) (now (image .entry)) .count ⌝ }
+    ensures value { λ r. ⌜ now (value .exit) ≡ valueAfter r (byteCall true «flash_base» «cs0_base» report (now («set_rows» .entry)) (now («rom_rows» .entry)) set logical address (now (levels .entry)) (now (count .entry)) (now (image .entry)) .byte) (now (value .entry)) ⌝ }
+{
+    let board = c_report::board_in(flash_base, cs0_base, report);
+    let at = c_board::address_from(logical, address, *levels);
+    let shown = rom_reads::read_rom_byte_demangled(
+        image,
+        board,
+        set_rows,
+        rom_rows,
+        set,
+        at,
+        *count,
+    );
+    *count = shown.count;
+    if shown.number != 0 {
+        return shown.number as u32;
+    }
+    *value = shown.byte;
+    0
+}

@@ -39,7 +39,7 @@ use denote.Exit.{yes, unchanged, Exit, Last, left}
 use denote.Ref.{now}
 use denote.Signature.{Slot, namedLft, plain, typesAt}
 use denote.Slice.{sliceVal, sliceTy, ShrSlice}
-use denote.Steps.{owned, peeks, heard, nothing}
+use denote.Steps.{owned, peeks, heard}
 use denote.Struct.Declared.{Declared, shape, fields, row as row-of}
 use denote.Struct.Laws as LL
 use denote.Struct.Rest.{all-own, ownAt, rest, own-open, own-out}
@@ -285,14 +285,14 @@ one-param g σ τ = record {
       (seq (call g (copy (place 3 []) ∷ copy (place 4 []) ∷ copy (place 2 []) ∷ []) (place 0 [])) return));
 }
 
-module _ (F : Further) (Z : Declared) (LZ : LL.Laws Z) (f : (κs : Lfts 1) → List ℕ → ℕ → F .row .Denot × Unit {0} → Z .D) where
+module _ (F : Further) (Z : Declared) (LZ : LL.Laws Z) (f : (κs : Lfts 1) → List ℕ → ℕ → F .row .Denot × Unit {0} → Z .D) (g : Name) where
   abbrev R : Reader
   R = record { further = F ∷ []; result = Z; laws = LZ; answer = f }
 
-  module _ (g : Name) {M : Type 1} (𝓤 : URA M) (H : Heap 𝓤) (A : Atoms 𝓤) (W : Given 𝓤 H A) where
-    abbrev function : Fn
-    function = one-param g (F .mir) (layout (shape Z))
+  abbrev function : Fn
+  function = one-param g (F .mir) (layout (shape Z))
 
+  module _ {M : Type 1} (𝓤 : URA M) (H : Heap 𝓤) (A : Atoms 𝓤) (W : Given 𝓤 H A) where
     one-param-walked : Walked R 𝓤 H A W function g
     one-param-walked C Λ fm known κ q d a are wt =
         qed W (raw (Entry R 𝓤 H A W κ q d a) ∷ []) ∵ enter ! C Λ function (T′.lowered d ∷ F .val (a .0) ∷ []) _ $
@@ -307,7 +307,7 @@ module _ (F : Further) (Z : Declared) (LZ : LL.Laws Z) (f : (κs : Lfts 1) → L
         returns ! (look ! 11 refl) $ forget ! 3 refl $ forget ! 5 refl $ forget ! 7 refl $ forget ! 9 refl $ forget ! 11 refl $
         move ! (11 ∷ 12 ∷ []) $ free1 ! $ move ! (9 ∷ 10 ∷ []) $ free1 ! $ move ! (7 ∷ 8 ∷ []) $ free1 ! $ move ! (5 ∷ 6 ∷ []) $ free1 ! $ move ! (3 ∷ 4 ∷ []) $ free1 ! $ free0 ! $ by ! (exits R 𝓤 H A W κ q d a are r u e))))))))
 
-  module _ (g : Name) {M : Type 1} (𝓤 : URA M) (H : Heap 𝓤) (𝓜 : Model 𝓤 H) (𝓖 : GhostRules 𝓤 H) (𝓡 : Running 𝓤 H 𝓜) where
-    pub one-param-proved : (env : Env) (k : Name) → Closed 𝓤 H (tables 𝓤 H 𝓜 𝓡 env .C) (tables 𝓤 H 𝓜 𝓡 env .Λ) k (one-param g (F .mir) (layout (shape Z))) → (called : Routine) → env g ≡ called → Triple 𝓤 (𝓡 .run called) (Called R 𝓤 H (𝓖 .A))
+  module _ {M : Type 1} (𝓤 : URA M) (H : Heap 𝓤) (𝓜 : Model 𝓤 H) (𝓖 : GhostRules 𝓤 H) (𝓡 : Running 𝓤 H 𝓜) where
+    pub one-param-proved : (env : Env) (k : Name) → Closed 𝓤 H (tables 𝓤 H 𝓜 𝓡 env .C) (tables 𝓤 H 𝓜 𝓡 env .Λ) k function → (called : Routine) → env g ≡ called → Triple 𝓤 (𝓡 .run called) (Called R 𝓤 H (𝓖 .A))
         → Meets 𝓤 H (𝓖 .A) (Own-ended R .signature) (𝓡 .run (env k)) (closing 𝓤 H (𝓖 .A) (Own-ended R) (reads R 𝓤))
-    one-param-proved = proved R 𝓤 H 𝓜 𝓖 𝓡 (one-param g (F .mir) (layout (shape Z))) g (one-param-walked g 𝓤 H (𝓖 .A) (givenOf 𝓤 H 𝓜 𝓖))
+    one-param-proved = proved R 𝓤 H 𝓜 𝓖 𝓡 function g (one-param-walked 𝓤 H (𝓖 .A) (givenOf 𝓤 H 𝓜 𝓖))

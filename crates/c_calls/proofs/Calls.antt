@@ -8,7 +8,7 @@ use Rattle.pins.specs.declared.SdrrPins.{SdrrPins}
 use Rattle.pins.specs.declared.PinsItem.{PinsItem}
 use Rattle.pins.specs.Pins.{eightZeros}
 use Rattle.mangle.specs.declared.Mangled.{Mangled}
-use Rattle.mangle.specs.declared.Demangled.{Demangled}
+use Rattle.demangle.specs.declared.Demangled.{Demangled}
 use Rattle.info.specs.declared.Valued.{Valued}
 use Rattle.info.specs.declared.GoverningSet.{GoverningSet}
 use Rattle.info.specs.Lent.{governingSet0, mangledBy, demangleByte}

@@ -3,7 +3,7 @@ use Prim.Native.Nat.{ℕ}
 use mathlib.Core.List.{List, [], _∷_, _++_}
 use Rattle.pins.specs.Pins.{eightZeros}
 use Rattle.mangle.specs.declared.Mangled.{Mangled}
-use Rattle.mangle.specs.declared.Demangled.{Demangled}
+use Rattle.demangle.specs.declared.Demangled.{Demangled}
 use Rattle.info.specs.Lent.{mangleAddress, demangleByte}
 use Rattle.c_board.specs.Board.{levelsFrom, pinsFrom, pinsItem}
 

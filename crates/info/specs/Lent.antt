@@ -13,9 +13,9 @@ use Rattle.pins.specs.declared.SdrrPins.{SdrrPins}
 use Rattle.pins.specs.declared.PinsItem.{PinsItem}
 pub use Rattle.rows.specs.LentRows.{hasSetRow, hasRomRow, setWord, dataPointer, sizeOf, firstRom, romCount, serveOf, typeWord, badRomRow, setNumber}
 use Rattle.mangle.specs.declared.Mangled.{Mangled}
-use Rattle.mangle.specs.declared.Demangled.{Demangled}
+use Rattle.demangle.specs.declared.Demangled.{Demangled}
 use Rattle.mangle.specs.Mangle.{mangleCore}
-use Rattle.mangle.specs.Demangle.{demangle}
+use Rattle.demangle.specs.Demangle.{demangle}
 use Rattle.info.specs.declared.GoverningSet.{GoverningSet}
 use Rattle.info.specs.declared.Valued.{Valued}
 

@@ -9,7 +9,7 @@ use Rattle.window.specs.Window.{baseAfter, beyondWindow}
 use Rattle.prog.specs.Prog.{Prog, done, fetch, mapP, run}
 use Rattle.types.specs.declared.SdrrCsSet.{SdrrCsSet}
 use Rattle.mangle.specs.declared.Mangled.{Mangled}
-use Rattle.mangle.specs.declared.Demangled.{Demangled}
+use Rattle.demangle.specs.declared.Demangled.{Demangled}
 use Rattle.info.specs.declared.SdrrAddress.{SdrrAddress}
 use Rattle.info.specs.Lent.{Lent, setNumber, sizeOf, dataPointer, mangleAddress, demangleByte}
 

@@ -1,5 +1,5 @@
 // The calls on an opened board (info.rs): mangling by set 0, demangling. They go by the report and rows as lent.
-use mangle::Demangled;
+use demangle::Demangled;
 use mangle::Mangled;
 use pins::PinsItem;
 use pins::SdrrPins;
@@ -127,5 +127,5 @@ pub fn demangle_byte(pins: PinsItem, byte: u8) -> Demangled
     }
     let p = pins.pins;
     let data = p.data;
-    mangle::demangle_core(data, byte)
+    demangle::demangle_core(data, byte)
 }

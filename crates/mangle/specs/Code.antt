@@ -1,38 +1,19 @@
--- The sixteen-pin map as a word: bit p is the level of pin p. Each writer of the map puts its bit on its pin at once, over the bit of an
--- earlier one. Laws/Words says that this comes to the map and its placing.
-use Prim.Native.Nat.{ℕ, suc, _+_, _*_, _-_, _^_}
+-- The sixteen-pin map as a word: each writer of the map puts its bit on its pin at once. Laws.Words says that this comes to the map and its
+-- placing.
+use Prim.Native.Nat.{ℕ}
 use mathlib.Core.Bool.{Bool, not, _&&_, _||_}
 use mathlib.Core.List.{List, [], _∷_}
-use lib.Dec.{ltb, eqb}
+use lib.Dec.{eqb}
 use Rattle.base.specs.Choice.{pick}
 use Rattle.types.specs.declared.SdrrRomType.{SdrrRomType}
+use Rattle.demangle.specs.Bits.{isBit, takenBit}
+use Rattle.pin_words.specs.declared.Placed.{Placed}
+use Rattle.pin_words.specs.Code.{onPin}
+use Rattle.rom_rules.specs.Rules.{rulesOf, controlBits, several}
+use Rattle.rom_rules.specs.Input.{mangleNumber}
 use Rattle.mangle.specs.declared.Mangled.{Mangled}
-use Rattle.mangle.specs.declared.Placed.{Placed}
-use Rattle.mangle.specs.Bits.{bitAt, takenBit}
-use Rattle.mangle.specs.Mangle.{mangleNumber, mangledTo}
+use Rattle.mangle.specs.Mangle.{mangledTo}
 use Rattle.mangle.specs.PinMap.{off, controlOff}
-use Rattle.mangle.specs.Rules.{isBit, rulesOf, controlBits, several}
-
--- pin p of v at level b; a pin at 16 or above is left out
-unfoldable pub onPin : (v p b : ℕ) → ℕ
-onPin v p b = pick (ltb p 16) (v - bitAt v p * 2 ^ p + b * 2 ^ p) v
-
--- bits i, i + 1, .. of the word w, each on its pin
-unfoldable pub onPins : List ℕ → (i w v : ℕ) → ℕ
-onPins [] i w v = v
-onPins (p ∷ ps) i w v = onPins ps (suc i) w (onPin v p (takenBit w i))
-
--- a word with every input bit high: the pins that are high under it are those that take a bit
-abbrev pub allHigh : ℕ
-allHigh = 4294967295
-
--- one bit more, under a word and under the word of ones
-abbrev pub stepPin : Placed → (p w i : ℕ) → Placed
-stepPin s p w i = record { value = onPin (s .value) p (takenBit w i); mapped = onPin (s .mapped) p (takenBit allHigh i) }
-
--- the address pins under a word, and those that take a bit
-abbrev pub placed : List ℕ → ℕ → Placed
-placed ps w = record { value = onPins ps 0 w 0; mapped = onPins ps 0 allHigh 0 }
 
 abbrev pub isHighPin : (v p : ℕ) → Bool
 isHighPin v p = eqb (takenBit v p) 1

@@ -1,4 +1,4 @@
--- Document 01, "Bench cases": D1, D2, M1 to M4, computed.
+-- Document 01, "Bench cases": M1 to M4, computed.
 use Prim.Native.Nat.{ℕ, _+_}
 use mathlib.Core.Path.{_≡_, refl}
 use mathlib.Core.List.{List, [], _∷_, _++_, map}
@@ -9,22 +9,12 @@ use Rattle.types.specs.declared.SdrrMcuPort.{SdrrMcuPort}
 use Rattle.types.specs.declared.SdrrRomType.{SdrrRomType}
 use Rattle.types.specs.declared.SdrrCsSet.{SdrrCsSet}
 use Rattle.pins.specs.declared.SdrrPins.{SdrrPins}
-use Rattle.mangle.specs.BaseZero.{leastOf, lowered, leastPin, loweredBy, baseZero}
-use Rattle.mangle.specs.Bits.{bitAt, takenBit, gather}
-use Rattle.mangle.specs.Demangle.{allBelow, demangle}
-use Rattle.mangle.specs.Mangle.{raised, inputWord, mangleNumber, mangleBy, mangleOf, mangleCore}
+use Rattle.demangle.specs.Bits.{bitAt, takenBit, gather}
+use Rattle.base_zero.specs.BaseZero.{leastOf, lowered, leastPin, loweredBy, baseZero}
+use Rattle.rom_rules.specs.Rules.{rulesOf, drives}
+use Rattle.rom_rules.specs.Input.{raised, inputWord, mangleNumber}
 use Rattle.mangle.specs.PinMap.{withAddress, withX, controlOff, withControl, withControls, mapNumber, wholeMap, mapBy, mapOf, pinMap}
-use Rattle.mangle.specs.Rules.{rulesOf, drives}
-
--- data pins 7..0, byte 1
-pub D1 : demangle (7 ∷ 6 ∷ 5 ∷ 4 ∷ 3 ∷ 2 ∷ 1 ∷ 0 ∷ []) 1 ≡ record { number = 0; value = 128 }
-unfolding demangle allBelow gather takenBit bitAt
-D1 = refl
-
--- a pin 8
-pub D2 : demangle (7 ∷ 6 ∷ 5 ∷ 8 ∷ 3 ∷ 2 ∷ 1 ∷ 0 ∷ []) 1 ≡ record { number = 79; value = 0 }
-unfolding demangle allBelow
-D2 = refl
+use Rattle.mangle.specs.Mangle.{mangleBy, mangleOf, mangleCore}
 
 -- 24 pins, these address pins and CS1 to CS3, the others 255
 abbrev pub board : List ℕ → (cs1 cs2 cs3 : ℕ) → SdrrPins

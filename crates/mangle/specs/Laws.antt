@@ -1,4 +1,2 @@
 pub mod Bits
-pub mod Least
-pub mod Raise
 pub mod Words

@@ -1,9 +1,5 @@
-pub mod BaseZero
-pub mod Rules
-pub mod Bits
 pub mod PinMap
 pub mod Mangle
-pub mod Demangle
 pub mod Code
 pub mod Laws
 pub mod Examples

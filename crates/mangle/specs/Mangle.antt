@@ -1,48 +1,21 @@
--- Document 01, "Mangling": a logical address with its levels becomes an input word, whose bits are placed on the sixteen pins.
-use Prim.Native.Nat.{ℕ, _^_}
-use mathlib.Core.Bool.{Bool, not}
-use mathlib.Core.List.{List, [], _∷_}
-use lib.Bits.{bitOr}
-use lib.Dec.{ltb, eqb}
+-- Document 01, "Mangling": the input word's bits are placed on the sixteen pins.
+use Prim.Native.Nat.{ℕ}
+use mathlib.Core.Bool.{Bool}
+use mathlib.Core.List.{List}
+use lib.Dec.{eqb}
 use Rattle.base.specs.Choice.{pick}
-use Rattle.types.specs.Types.{isHigh}
 use Rattle.types.specs.declared.SdrrRomType.{SdrrRomType}
 use Rattle.types.specs.declared.SdrrCsSet.{SdrrCsSet}
 use Rattle.pins.specs.declared.SdrrPins.{SdrrPins}
+use Rattle.demangle.specs.Bits.{gather}
+use Rattle.rom_rules.specs.Input.{levels, inputWord, mangleNumber}
 use Rattle.mangle.specs.declared.PinMap.{PinMap}
 use Rattle.mangle.specs.declared.Mangled.{Mangled}
-use Rattle.mangle.specs.Bits.{gather}
 use Rattle.mangle.specs.PinMap.{pinMap}
-use Rattle.mangle.specs.Rules.{isBit, mask, drives, is28C16}
-
--- CS1, CS2, CS3, X1, X2; a level not given is low
-abbrev pub levels : SdrrCsSet → List Bool
-levels set = isHigh (set .cs1) ∷ isHigh (set .cs2) ∷ isHigh (set .cs3) ∷ isHigh (set .x1) ∷ isHigh (set .x2) ∷ []
-
--- input bit b alone, where b is one
-abbrev pub bitOf : ℕ → ℕ
-bitOf b = pick (isBit b) (2 ^ b) 0
-
--- each high level raises the input bit that it drives
-unfoldable pub raised : List ℕ → List Bool → ℕ → ℕ
-raised [] ls w = w
-raised (d ∷ ds) [] w = w
-raised (d ∷ ds) (l ∷ ls) w = raised ds ls (bitOr w (pick l (bitOf d) 0))
-
-unfoldable pub inputWord : SdrrRomType → ℕ → List Bool → ℕ → ℕ
-inputWord type count ls address = raised (drives type count) ls address
 
 -- a pin is high if the input bit that it takes is
 abbrev pub place : List ℕ → ℕ → ℕ
 place m word = gather m word
-
--- 77: address above the mask
-abbrev pub aboveMask : SdrrRomType → ℕ → Bool
-aboveMask type address = ltb (mask type) address
-
--- 72 to 76 are the map's number n; 77 and 78 come after it
-unfoldable pub mangleNumber : ℕ → SdrrRomType → ℕ → ℕ
-mangleNumber n type address = pick (not (eqb n 0)) n (pick (aboveMask type address) 77 (pick (is28C16 type) 78 0))
 
 -- the value is 0 where the number is not
 abbrev pub mangledTo : ℕ → ℕ → Mangled

@@ -7,9 +7,10 @@ use lib.ListN.{getD, set}
 use Rattle.base.specs.Choice.{pick}
 use Rattle.types.specs.declared.SdrrRomType.{SdrrRomType}
 use Rattle.pins.specs.declared.SdrrPins.{SdrrPins}
+use Rattle.demangle.specs.Bits.{none, isBit}
+use Rattle.base_zero.specs.BaseZero.{baseZero}
+use Rattle.rom_rules.specs.Rules.{rulesOf, controlBits, several}
 use Rattle.mangle.specs.declared.PinMap.{PinMap}
-use Rattle.mangle.specs.BaseZero.{baseZero}
-use Rattle.mangle.specs.Rules.{none, isBit, rulesOf, controlBits, several}
 
 -- sixteen pins that take nothing
 abbrev pub unmapped : List ℕ

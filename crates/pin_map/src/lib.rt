@@ -1,10 +1,13 @@
 // The sixteen-pin map as a value, made once for many addresses (info.rs `mangle_address`). `by-map` in mangle's laws says that mangling an
 // address is placing its input word under this map.
+use base_zero::base_zero;
+use base_zero::control_least;
+use base_zero::least_pin;
 use mangle::PinMap;
-use mangle::base_zero::base_zero;
-use mangle::pin_map_number;
-use mangle::rules::control_bits;
+use mangle::map::map_number;
+use pin_words::address_pins;
 use pins::SdrrPins;
+use rom_rules::control_bits;
 use types::SdrrRomType;
 ghost use mathlib.Core.Path.{_≡_};
 ghost use lib.ListN.{set};
@@ -87,6 +90,18 @@ fn whole_map(
         return with_controls(with_x(map, x1, x2), controls, bits);
     }
     with_controls(map, controls, bits)
+}
+
+// The number of a pins record's map, 72 to 76 or 0. Which pins have an address bit does not depend on the word.
+pub fn pin_map_number(pins: SdrrPins, rom_count: u32, rom_type: SdrrRomType) -> u8
+    ensures { λ r. ⌜ r ≡ pinMap pins «rom_count» «rom_type» .number ⌝ }
+{
+    let m = least_pin(pins);
+    let k = control_least(m, pins);
+    let addr = pins.addr;
+    let a = address_pins(m, addr, 0);
+    let controls = [pins.cs1, pins.cs2, pins.cs3, pins.oe, pins.ce];
+    map_number(k, a.mapped, pins.x1, pins.x2, controls, rom_count, rom_type)
 }
 
 // The map of a pins record, with the ROM count and the first type of the set that governs.

@@ -14,10 +14,11 @@ use Rattle.types.specs.declared.Level.{Level}
 use Rattle.text.specs.declared.Text.{Text}
 use Rattle.text.specs.Text.{hasNul, beforeNul, judged, chunksP, textP}
 use Rattle.mangle.specs.declared.Mangled.{Mangled}
-use Rattle.mangle.specs.declared.Demangled.{Demangled}
+use Rattle.demangle.specs.declared.Demangled.{Demangled}
 use Rattle.mangle.specs.Mangle.{mangleCore}
-use Rattle.mangle.specs.Demangle.{demangle}
+use Rattle.demangle.specs.Demangle.{demangle}
 use Rattle.mangle.specs.Examples.{board2364, given}
+use Rattle.demangle.specs.Examples as demangling
 use Rattle.mangle.specs.Examples as mangling
 use Rattle.starred.specs.Inputs.{ramBase, recordR1, recordR2, recordR3, recordR4, flashBase, imageT1, imageT2, imageT3, pinsD1, pinsD2}
 
@@ -99,8 +100,8 @@ starred R4 = refl
 starred T1 = refl
 starred T2 = refl
 starred T3 = refl
-starred D1 = ap byteWords mangling.D1
-starred D2 = ap byteWords mangling.D2
+starred D1 = ap byteWords demangling.D1
+starred D2 = ap byteWords demangling.D2
 starred M1 = ap addressWords mangling.M1
 starred M2 = ap addressWords mangling.M2
 starred M3 = ap addressWords mangling.M3

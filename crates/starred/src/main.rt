@@ -5,8 +5,8 @@ ghost use Rattle.starred.specs.Table.{ofRecord, ofString, textWords, byt
 ghost use Rattle.mangle.specs.Examples.{board, given};
 ghost use Rattle.types.specs.declared.Level.{Level};
 ghost use Rattle.starred.specs.Table.Case.{R1, R2, R3, R4, T1, T2, T3, D1, D2, M1, M2, M3};
+use demangle::Demangled;
 use libc::STDOUT_FILENO;
-use mangle::Demangled;
 use mangle::Mangled;
 use pins::SdrrPins;
 use text::Text;
@@ -94,13 +94,13 @@ fn case_t3() -> Text
 fn case_d1() -> Demangled
     ensures { λ r. ⌜ byteWords r ≡ expected D1 ⌝ }
 {
-    mangle::demangle_core([7, 6, 5, 4, 3, 2, 1, 0], 1)
+    demangle::demangle_core([7, 6, 5, 4, 3, 2, 1, 0], 1)
 }
 
 fn case_d2() -> Demangled
     ensures { λ r. ⌜ byteWords r ≡ expected D2 ⌝ }
 {
-    mangle::demangle_core([7, 6, 5, 8, 3, 2, 1, 0], 1)
+    demangle::demangle_core([7, 6, 5, 8, 3, 2, 1, 0], 1)
 }
 
 // The address pins and CS1 of a 2364's board, on 24 pins; the others are 255.

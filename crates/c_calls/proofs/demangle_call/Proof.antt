@@ -1,7 +1,7 @@
 use native.Mathlib.Omega.{arith}
 use mathlib.Core.Path.{_≡_, ap}
 use borrow.Author.Needs.{needs}
-use Rattle.mangle.specs.declared.Demangled.{Demangled}
+use Rattle.demangle.specs.declared.Demangled.{Demangled}
 use Rattle.c_board.specs.Laws.{value-refused, value-given}
 use Rattle.c_calls.proofs.Calls.{demangled}
 use Rattle.c_calls.proofs.demangle_call.Statement.{statement}

@@ -10,7 +10,7 @@ use Rattle.types.specs.Types.{romTypeOf}
 use Rattle.pins.specs.declared.SdrrPins.{SdrrPins}
 use Rattle.pins.specs.declared.PinsItem.{PinsItem}
 use Rattle.mangle.specs.Mangle.{mangleCore}
-use Rattle.mangle.specs.Demangle.{demangle}
+use Rattle.demangle.specs.Demangle.{demangle}
 use Rattle.info.specs.declared.GoverningSet.{GoverningSet}
 use Rattle.info.specs.Lent.{hasSetRow, romCount, firstRom, typeWord, unmangled, ungoverned, lacksFirstRom, governing, governingSet0, mangledBy, mangleAddress, demangleByte}
 

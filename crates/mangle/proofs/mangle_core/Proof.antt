@@ -1,8 +1,9 @@
 use native.Mathlib.Omega.{arith}
 use borrow.Author.Needs.{needs}
-use Rattle.mangle.specs.BaseZero.{baseZero, loweredBy}
-use Rattle.mangle.specs.Laws.Least.{least-from}
-use Rattle.mangle.specs.Laws.Words.{pins-lt, word-core}
+use Rattle.base_zero.specs.BaseZero.{baseZero, loweredBy}
+use Rattle.base_zero.specs.Laws.{least-from}
+use Rattle.pin_words.specs.Laws.{pins-lt}
+use Rattle.mangle.specs.Laws.Words.{word-core}
 use Rattle.mangle.proofs.mangle_core.Statement.{statement}
 use Rattle.mangle.proofs.mangle_core.Tie as tie
 

@@ -1,77 +1,30 @@
 -- Pins set one after the other come to the map and its placing.
 -- Assumes nothing.
-use Prim.Native.Nat.{ℕ, zero, suc, _+_, _*_, _-_, _/_, _%_, _^_, _≤_, _<_}
-use native.Mathlib.Nat.{mod-lt, add-zero, one-mul, pow-suc, mul-assoc, mul-le-mul-right, not-suc-le-zero, le-of-suc-le-suc}
+use Prim.Native.Nat.{ℕ, zero, suc, _+_, _*_, _-_, _^_, _<_}
+use native.Mathlib.Nat.{pow-suc, mul-assoc, not-suc-le-zero, le-of-suc-le-suc}
 use native.Mathlib.Omega.{arith}
 use mathlib.Core.Path.{_≡_, refl, sym, ap, _∙_}
 use mathlib.Core.Bool.{Bool, true, false, not}
 use mathlib.Core.List.{List, [], _∷_, map}
-use lib.Bits.{bitAnd, bitOr, and-block, and-mask, and-le-l, and-zero-r, or-add-and, or-lt}
 use lib.Dec.{ltb, eqb}
 use lib.ListN.{length, getD, set, length-set, List·getD-eq-default}
-use lib.Pow.{split, pow-add, pow-pos, pow-lt, shl-shr, ones-split, ones-lt, high}
 use lib.Seq.{set-out}
-use borrow.Author.Tests.{ltb-true, ltb-false, eqb-true, eqb-false, lt-ltb, le-ltb, ne-eqb}
+use borrow.Author.Tests.{ltb-true, ltb-false}
 use Rattle.base.specs.Choice.{pick}
 use Rattle.types.specs.declared.SdrrRomType.{SdrrRomType}
 use Rattle.types.specs.declared.SdrrCsSet.{SdrrCsSet}
 use Rattle.pins.specs.declared.SdrrPins.{SdrrPins}
-use Rattle.mangle.specs.BaseZero.{lowered, leastPin, loweredBy, baseZero}
-use Rattle.mangle.specs.Bits.{bitAt, takenBit, gather}
-use Rattle.mangle.specs.Laws.Bits.{taken-lt, bit-gather, address-length, x-length, one-length}
-use Rattle.mangle.specs.Mangle.{levels, inputWord, aboveMask, mangleNumber, mangledTo, mangleBy, mangleOf, mangleCore}
+use Rattle.demangle.specs.Bits.{none, isBit, bitAt, takenBit, gather}
+use Rattle.demangle.specs.Laws.{taken-lt, bit-gather}
+use Rattle.base_zero.specs.BaseZero.{lowered, leastPin, loweredBy, baseZero}
+use Rattle.pin_words.specs.Code.{onPin, onPins, allHigh, placed}
+use Rattle.pin_words.specs.Laws.{on-lt, all-high}
+use Rattle.rom_rules.specs.Rules.{controlBits, is28C16, several}
+use Rattle.rom_rules.specs.Input.{levels, inputWord, aboveMask, mangleNumber}
 use Rattle.mangle.specs.PinMap.{unmapped, withAddress, addressMap, withX, controlPins, withControl, withControls, isMapped, mapNumber, wholeMap, mapBy, mapOf, pinMap}
-use Rattle.mangle.specs.Rules.{none, isBit, controlBits, is28C16, several}
-use Rattle.mangle.specs.Code.{onPin, onPins, allHigh, placed, isHighPin, onX, onControl, onControls, wordNumber, wholeWord, mangleWord}
-
--- ---- one pin
-
-pub and-bit : (v p : ℕ) → bitAnd v (2 ^ p) ≡ bitAt v p * 2 ^ p
-unfolding bitAt
-and-bit v p =
-    let q : ℕ = 2 ^ p in
-    let e : 1 * 2 ^ p + 0 ≡ 2 ^ p = omega arith in
-    let b : bitAnd (v / 2 ^ p * 2 ^ p + v % 2 ^ p) (1 * 2 ^ p + 0) ≡ bitAnd (v / 2 ^ p) 1 * 2 ^ p + bitAnd (v % 2 ^ p) 0 =
-    and-block p (v / 2 ^ p) 1 (v % 2 ^ p) 0 (mod-lt v (pow-pos p)) (pow-pos p) in
-    ap (λ x. bitAnd x (2 ^ p)) (sym (split v p))
-    ∙ ap (λ x. bitAnd (v / 2 ^ p * 2 ^ p + v % 2 ^ p) x) (sym e)
-    ∙ b
-    ∙ rw (and-mask (v / 2 ^ p) 1, and-zero-r (v % 2 ^ p)) (add-zero _)
-
-pub bit-le : (b q : ℕ) → b < 2 → b * q ≤ q
-bit-le b q h = let e = mul-le-mul-right q (le-of-suc-le-suc h) in omega arith
-
-pub on-lt : (v p b : ℕ) → v < 65536 → b < 2 → onPin v p b < 65536
-unfolding onPin
-on-lt v p b h k = go (ltb p 16) refl
-  where
-    go : (c : Bool) → ltb p 16 ≡ c → pick c (v - bitAt v p * 2 ^ p + b * 2 ^ p) v < 65536
-    go true e =
-        let s = or-add-and v (2 ^ p) in
-        let a = and-bit v p in
-        let o : bitOr v (2 ^ p) < 65536 = or-lt 16 v (2 ^ p) h (pow-lt (ltb-true p 16 e)) in
-        let l = bit-le b (2 ^ p) k in
-        let u = and-le-l v (2 ^ p) in
-        omega arith
-    go false e = h
-
--- a pin at level b, from its bit q
-pub level-on : (v p q b : ℕ) → p < 16 → q ≡ 2 ^ p → v - bitAnd v q + b * q ≡ onPin v p b
-unfolding onPin
-level-on v p q b h e = rw (e, lt-ltb p 16 h, and-bit v p) refl
-
-pub or-on : (v p q : ℕ) → p < 16 → q ≡ 2 ^ p → bitOr v q ≡ onPin v p 1
-or-on v p q h e =
-    let s = or-add-and v q in
-    let u = and-le-l v q in
-    let l : v - bitAnd v q + 1 * q ≡ onPin v p 1 = level-on v p q 1 h e in
-    omega arith
-
--- a bit from the highest of the sixteen
-pub top-shr : (p q : ℕ) → p + q ≡ 15 → 32768 / 2 ^ q ≡ 2 ^ p
-top-shr p q h =
-    let e : 32768 ≡ 2 ^ p * 2 ^ q = ap (λ n. 2 ^ n) (sym h) ∙ pow-add 2 p q in
-    ap (λ n. n / 2 ^ q) e ∙ shl-shr (2 ^ p) q
+use Rattle.mangle.specs.Mangle.{mangledTo, mangleBy, mangleOf, mangleCore}
+use Rattle.mangle.specs.Laws.Bits.{address-length, x-length, one-length}
+use Rattle.mangle.specs.Code.{isHighPin, onX, onControl, onControls, wordNumber, wholeWord, mangleWord}
 
 pub x-lt : (v x1 x2 w : ℕ) → v < 65536 → onX v x1 x2 w < 65536
 unfolding onX
@@ -84,42 +37,6 @@ control-lt v p b w h = go (isBit b)
     go : (c : Bool) → pick c (onPin v p (takenBit w b)) v < 65536
     go true = on-lt v p (takenBit w b) h (taken-lt w b)
     go false = h
-
-pub pins-lt : (ps : List ℕ) (i w v : ℕ) → v < 65536 → onPins ps i w v < 65536
-unfolding onPins
-pins-lt [] i w v h = h
-pins-lt (p ∷ ps) i w v h = pins-lt ps (suc i) w (onPin v p (takenBit w i)) (on-lt v p (takenBit w i) h (taken-lt w i))
-
--- ---- a pin against the limit, before it is lowered
-
--- the pins below it are those of the sixteen when lowered by m
-abbrev pub limit : ℕ → ℕ
-limit m = pick (ltb m 239) (m + 16) 255
-
-limit-le : (m : ℕ) → (limit m ≤ m + 16) × (limit m ≤ 255)
-limit-le m = go (ltb m 239) refl
-  where
-    go : (c : Bool) → ltb m 239 ≡ c → (pick c (m + 16) 255 ≤ m + 16) × (pick c (m + 16) 255 ≤ 255)
-    go true e = let h = ltb-true m 239 e in (omega arith, omega arith)
-    go false e = let h = ltb-false m 239 e in (omega arith, omega arith)
-
-pub limit-in : (m p : ℕ) → p < limit m → (lowered m p ≡ p - m) × (p - m < 16)
-unfolding lowered
-limit-in m p h =
-    let l : limit m ≤ m + 16 = limit-le m .0 in
-    let k : limit m ≤ 255 = limit-le m .1 in
-    let e : eqb p 255 ≡ false = ne-eqb p 255 (λ q. omega arith) in
-    (rw e refl, omega arith)
-
-pub limit-out : (m p : ℕ) → p < 256 → limit m ≤ p → 16 ≤ lowered m p
-unfolding lowered
-limit-out m p b h = go (ltb m 239) (eqb p 255) refl refl h
-  where
-    go : (c d : Bool) → ltb m 239 ≡ c → eqb p 255 ≡ d → pick c (m + 16) 255 ≤ p → 16 ≤ pick d p (p - m)
-    go true true e f h = let k = eqb-true p 255 f in omega arith
-    go true false e f h = omega arith
-    go false true e f h = omega arith
-    go false false e f h = let k = eqb-false p 255 f in absurd (k (omega arith))
 
 -- an entry exchanged
 exchanged : (m : List ℕ) (x p e : ℕ) → p < length m
@@ -186,19 +103,6 @@ whole-gather m x1 x2 controls count type x h = go (several count)
     go false = controls-gather controls (controlBits type) x m h
 
 -- ---- the numbers
-
-all-high : (e : ℕ) → e < 32 → bitAt allHigh e ≡ 1
-unfolding bitAt
-all-high e h =
-    let k : ℕ = 31 - e in
-    let s : suc (31 - e) + e ≡ 32 = omega arith in
-    let t : (2 ^ suc (31 - e) - 1) * 2 ^ e + (2 ^ e - 1) ≡ allHigh = sym (ones-split (suc (31 - e)) e) ∙ ap (λ n. 2 ^ n - 1) s in
-    let d : allHigh / 2 ^ e ≡ 2 ^ suc (31 - e) - 1 = ap (λ n. n / 2 ^ e) (sym t) ∙ high (2 ^ suc (31 - e) - 1) e (ones-lt e) in
-    rw (d, pow-suc 2 (31 - e)) (let z = pow-pos (31 - e) in omega arith)
-
-pub all-taken : (i : ℕ) → i < 32 → takenBit allHigh i ≡ 1
-unfolding takenBit
-all-taken i h = rw (lt-ltb i 32 h) (all-high i h)
 
 -- a pin is high under the word of ones if an address bit is on it
 high-mapped : (m : List ℕ) (p : ℕ) → length m ≡ 16 → isHighPin (gather m allHigh) p ≡ isMapped m p

@@ -1,7 +1,7 @@
 use native.Mathlib.Omega.{arith}
 use mathlib.Core.Path.{_≡_, sym, ap, _∙_}
 use borrow.Author.Needs.{needs}
-use Rattle.mangle.specs.declared.Demangled.{Demangled}
+use Rattle.demangle.specs.declared.Demangled.{Demangled}
 use Rattle.rom_reads.specs.Laws.Steps.{shown-refused, shown-79, shown-demangled}
 use Rattle.rom_reads.proofs.shown_byte.Statement.{statement}
 use Rattle.rom_reads.proofs.shown_byte.Tie as tie

@@ -4,7 +4,7 @@ use mathlib.Core.Path.{_≡_, _∙_, sym, refl}
 use mathlib.Core.List.{map}
 use lib.ListN.{length, drop}
 use borrow.Author.Needs.{needs}
-use Rattle.mangle.specs.BaseZero.{lowered}
+use Rattle.base_zero.specs.BaseZero.{lowered}
 use Rattle.mangle.specs.PinMap.{controlOff}
 use Rattle.mangle.proofs.Steps.{off-on, off-end}
 use Rattle.mangle.proofs.map.control_off.Statement.{statement}

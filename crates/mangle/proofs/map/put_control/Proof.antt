@@ -1,6 +1,6 @@
 use borrow.Author.Needs.{needs}
 use borrow.Author.Tests.{lt-ltb, le-ltb}
-use Rattle.mangle.specs.Laws.Bits.{taken-lt}
+use Rattle.demangle.specs.Laws.{taken-lt}
 use Rattle.mangle.specs.Code.{onControl}
 use Rattle.mangle.proofs.map.put_control.Statement.{statement}
 use Rattle.mangle.proofs.map.put_control.Tie as tie

@@ -1,6 +1,6 @@
 use borrow.Author.Needs.{needs}
 use borrow.Author.Tests.{le-leb, lt-leb}
-use Rattle.mangle.specs.BaseZero.{lowered}
+use Rattle.base_zero.specs.BaseZero.{lowered}
 use Rattle.mangle.specs.Laws.Words.{x-lt}
 use Rattle.mangle.specs.Code.{wholeWord}
 use Rattle.mangle.proofs.map.whole_word.Statement.{statement}

@@ -4,7 +4,7 @@ use mathlib.Core.Path.{_≡_, _∙_, sym, refl}
 use mathlib.Core.List.{map}
 use lib.ListN.{length, drop}
 use borrow.Author.Needs.{needs}
-use Rattle.mangle.specs.BaseZero.{lowered}
+use Rattle.base_zero.specs.BaseZero.{lowered}
 use Rattle.mangle.specs.Laws.Words.{control-lt}
 use Rattle.mangle.specs.Code.{onControls}
 use Rattle.mangle.proofs.Steps.{control-on, control-end}

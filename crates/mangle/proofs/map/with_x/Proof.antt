@@ -1,7 +1,7 @@
 use borrow.Author.Needs.{needs}
-use Rattle.mangle.specs.BaseZero.{lowered}
-use Rattle.mangle.specs.Laws.Bits.{taken-lt}
-use Rattle.mangle.specs.Laws.Words.{on-lt}
+use Rattle.base_zero.specs.BaseZero.{lowered}
+use Rattle.demangle.specs.Laws.{taken-lt}
+use Rattle.pin_words.specs.Laws.{on-lt}
 use Rattle.mangle.specs.Code.{onX}
 use Rattle.mangle.proofs.map.with_x.Statement.{statement}
 use Rattle.mangle.proofs.map.with_x.Tie as tie

@@ -1,0 +1,2 @@
+pub mod BaseZero
+pub mod Laws

@@ -1,0 +1,4 @@
+pub mod Bits
+pub mod Demangle
+pub mod Laws
+pub mod Examples

@@ -1,8 +1,7 @@
-use mathlib.Core.Bool.{true, false}
-use mathlib.Core.Path.{_≡_}
+use mathlib.Core.Path.{sym, _∙_}
 use borrow.Author.Tests.{not-true, not-false}
 use borrow.Author.Needs.{needs}
-use Rattle.runtime_info.specs.Runtime.{reaches, group063Of}
+use Rattle.runtime_info.specs.Runtime.{group063Of}
 use Rattle.runtime_info.proofs.group_v063.Statement.{statement}
 use Rattle.runtime_info.proofs.group_v063.Tie as tie
 
@@ -11,11 +10,7 @@ reaches-end-requires c κs = search needs
 
 returns : tie.Need-returns
 unfolding group063Of
-returns c =
-    let s = c .before .before .before .args .«data» .now in
-    let off : c .before .reaches-end .result ≡ false = not-true _ (c .if1 .taken) in
-    let e : (reaches s 39) ≡ false = cc in
-    rw e
+returns c = rw (sym (c .before .reaches-end .ensures) ∙ not-true _ (c .if1 .taken))
 
 flag-at-requires : tie.Need-flag-at-requires
 flag-at-requires c κs = search needs
@@ -28,11 +23,7 @@ flag-at-requires-2 c κs = search needs
 
 returns-2 : tie.Need-returns-2
 unfolding group063Of
-returns-2 c =
-    let s = c .before .before .before .before .before .before .args .«data» .now in
-    let on : c .before .before .before .before .reaches-end .result ≡ true = not-false _ (c .before .before .before .if1 .left) in
-    let e : (reaches s 39) ≡ true = cc in
-    rw e (cc)
+returns-2 c = rw (sym (c .before .before .before .before .reaches-end .ensures) ∙ not-false _ (c .before .before .before .if1 .left)) (rw (c .flag-at2 .ensures, c .before .u8-at .ensures, c .before .before .flag-at .ensures))
 
 pub group-v063-spec : {M : Type 1} → statement M
 group-v063-spec =

@@ -15,7 +15,7 @@ group-v067-requires : tie.Need-group-v067-requires
 group-v067-requires c κs = search needs
 
 returns : tie.Need-returns
-returns c = cc
+returns c = rw (c .group-v067 .ensures, c .before .group-v063 .ensures, c .before .before .group-v062 .ensures, c .before .before .before .group-v060 .ensures)
 
 pub parse-runtime-versioned-fields-spec : {M : Type 1} → statement M
 parse-runtime-versioned-fields-spec =

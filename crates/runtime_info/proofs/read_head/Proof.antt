@@ -26,7 +26,7 @@ u32-at-requires-3 c κs = search needs
 
 returns : tie.Need-returns
 unfolding headOf
-returns c = cc
+returns c = rw (c .u32-at3 .ensures, c .before .u32-at2 .ensures, c .before .before .u32-at .ensures, c .before .before .before .u8-at3 .ensures, c .before .before .before .before .u8-at2 .ensures, c .before .before .before .before .before .u8-at .ensures)
 
 pub read-head-spec : {M : Type 1} → statement M
 read-head-spec =

@@ -19,7 +19,7 @@ READING = [
     ("ROM sets and ROM infos", ["set_header/SetHeader", "walk/Walk", "walk/Names", "walk/Rows", "rows/LentRows", "rom_rows/Reply"]),
     ("Report", ["fw_parser/Opening", "fw_parser/Reply"]),
     ("Pins", ["pins/Pins"]),
-    ("Mangling", ["mangle/BaseZero", "mangle/Rules", "mangle/PinMap", "mangle/Bits", "mangle/Mangle", "mangle/Demangle"]),
+    ("Mangling", ["base_zero/BaseZero", "rom_rules/Rules", "rom_rules/Input", "demangle/Bits", "mangle/PinMap", "mangle/Mangle", "demangle/Demangle"]),
     ("Lent rows, ROM data, same set", ["info/Lent", "info/Reads", "info/Same", "rom_reads/Calls"]),
     ("Runtime", ["runtime_info/Runtime", "runtime_info/Words"]),
     ("demand 3", ["cut_short/Shown", "cut_short/FirstRead", "cut_short/Demand3"]),

@@ -15,11 +15,11 @@ pub(crate) struct Boards {
     pub(crate) cut: Board,
 }
 
-// Whether a call was read, its reply on the cut, and whether the whole's reply and bytes are the same.
+// Whether a call was tried, its reply on the cut, and whether that is a refusal or the whole's reply, with the same bytes.
 struct Both {
     tried: bool,
     cut: Reply,
-    same: bool,
+    held: bool,
 }
 
 fn untried() -> Both {
@@ -31,7 +31,15 @@ fn untried() -> Both {
     Both {
         tried: false,
         cut,
-        same: true,
+        held: true,
+    }
+}
+
+fn refused(cut: Reply) -> Both {
+    Both {
+        tried: true,
+        cut,
+        held: true,
     }
 }
 
@@ -45,11 +53,11 @@ fn same_reply(a: Reply, b: Reply) -> bool {
     a.count == b.count
 }
 
-fn tried(whole: Reply, cut: Reply, bytes: &[u8; 4096], cut_bytes: &[u8; 4096]) -> Both {
+fn accepted(whole: Reply, cut: Reply, bytes: &[u8; 4096], cut_bytes: &[u8; 4096]) -> Both {
     Both {
         tried: true,
         cut,
-        same: base::both(same_reply(whole, cut), words::same_bytes(bytes, cut_bytes)),
+        held: base::both(same_reply(whole, cut), words::same_bytes(bytes, cut_bytes)),
     }
 }
 
@@ -66,7 +74,7 @@ fn first(given: &[u8], k: u32) -> Call {
     }
 }
 
-// The call on both boards, where it is a read and the buffers hold its bytes.
+// The call on the cut, where it is a read and the buffers hold its bytes; and, where the cut accepts it, on the whole.
 fn read_both(
     b: Boards,
     given: &[u8],
@@ -85,9 +93,6 @@ fn read_both(
     if 4096 < n {
         return untried();
     }
-    let image = record::image(given);
-    let board = b.whole;
-    let w = calls::read(image, board, sets, roms, call, &mut bytes[..n]);
     let cut_image = record::cut_image(given, b.length);
     let cut_board = b.cut;
     let r = calls::read(
@@ -98,7 +103,13 @@ fn read_both(
         call,
         &mut cut_bytes[..n],
     );
-    tried(w, r, &bytes, &cut_bytes)
+    if r.number != 0 {
+        return refused(r);
+    }
+    let image = record::image(given);
+    let board = b.whole;
+    let w = calls::read(image, board, sets, roms, call, &mut bytes[..n]);
+    accepted(w, r, &bytes, &cut_bytes)
 }
 
 fn counted(t: Tally, b: Both) -> Tally {
@@ -106,7 +117,7 @@ fn counted(t: Tally, b: Both) -> Tally {
         return t;
     }
     let r = b.cut;
-    tally::with_read(t, r, b.same)
+    tally::with_read(t, r, b.held)
 }
 
 // All calls that are reads.

@@ -56,9 +56,8 @@ pub(crate) fn with_cut(t: Tally, v: Verdict) -> Tally {
     }
 }
 
-// A read's reply on a cut, and whether the whole's is the same.
-pub(crate) fn with_read(t: Tally, r: Reply, same: bool) -> Tally {
-    let accepted = r.number == 0;
+// A read's reply on a cut, and whether demand 3 holds.
+pub(crate) fn with_read(t: Tally, r: Reply, held: bool) -> Tally {
     Tally {
         sum: words::mix(
             words::mix(t.sum, r.number as u32),
@@ -67,8 +66,8 @@ pub(crate) fn with_read(t: Tally, r: Reply, same: bool) -> Tally {
         refused: t.refused,
         equal: t.equal,
         ended: t.ended,
-        reads: one_more(t.reads, accepted),
-        failed: one_more(t.failed, base::both(accepted, !same)),
+        reads: one_more(t.reads, r.number == 0),
+        failed: one_more(t.failed, !held),
     }
 }
 

@@ -39,7 +39,7 @@ governing sets roms i =
     (pick (lacksFirstRom sets roms i) (ungoverned 4)
     (record { number = 0; «rom_count» = romCount sets i; «rom_type» = romTypeOf (typeWord roms (firstRom sets i)) }))
 
--- "Set 0's ROM count and first type govern, whichever set is then read." 70: no pins. 71: no sets. Then 4.
+-- Set 0 governs, whichever set is then read. 70: no pins. 71: no sets. Then 4.
 unfoldable pub governingSet0 : (pinsNumber served : ℕ) → (sets roms : List ℕ) → GoverningSet
 governingSet0 pinsNumber served sets roms = pick (not (eqb pinsNumber 0)) (ungoverned 70) (pick (eqb served 0) (ungoverned 71) (governing sets roms 0))
 

@@ -57,11 +57,12 @@ def reading():
 
 
 def defined(path):
-    """The names that an antt file declares."""
+    """The names that an antt file declares or hands on."""
     t = text(path)
     names = set(re.findall(r"(?m)^ *(?:abbrev |unfoldable )?(?:pub )?(?:record |data )?([A-Za-z0-9][\w'′?-]*) ?[:({]", t))
-    return names | set(re.findall(r"(?m)^(?:unfoldable )?pub use .*\{([^}]*)\}", t) and
-                       [n.strip() for g in re.findall(r"(?m)^(?:unfoldable )?pub use .*\{([^}]*)\}", t) for n in g.split(",")])
+    for group in re.findall(r"(?m)^(?:unfoldable )?pub use .*\{([^}]*)\}", t):
+        names |= {name.strip() for name in group.split(",")}
+    return names
 
 
 def universe():

@@ -1,9 +1,8 @@
 -- Document 01, "Lent rows": later calls go by the report and rows as lent, altered or not.
-use Prim.Native.Nat.{ℕ, _+_, _*_}
-use mathlib.Core.Bool.{Bool, not, _&&_, _||_}
+use Prim.Native.Nat.{ℕ}
+use mathlib.Core.Bool.{Bool, not, _&&_}
 use mathlib.Core.List.{List}
-use lib.Dec.{ltb, leb, eqb}
-use lib.ListN.{length, getD}
+use lib.Dec.{eqb}
 use Rattle.base.specs.Choice.{pick}
 use Rattle.types.specs.declared.McuLine.{McuLine}
 use Rattle.types.specs.declared.SdrrCsSet.{SdrrCsSet}

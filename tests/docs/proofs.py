@@ -22,7 +22,7 @@ READING = [
     ("Mangling", ["base_zero/BaseZero", "rom_rules/Rules", "rom_rules/Input", "demangle/Bits", "mangle/PinMap", "mangle/Mangle", "demangle/Demangle"]),
     ("Lent rows, ROM data, same set", ["info/Lent", "info/Reads", "info/Same", "rom_reads/Calls"]),
     ("Runtime", ["runtime_info/Runtime", "runtime_info/Words"]),
-    ("demand 3", ["cut_short/Shown", "cut_short/FirstRead", "cut_short/Demand3"]),
+    ("demand 3", ["cut_short/Shown", "cut_short/ReadAfter", "cut_short/Demand3"]),
     ("the calls of C and Rust", ["c_board/Board", "c_board/Value", "c_report/Report", "c_open/Opening", "c_reads/Reads", "c_calls/Board"]),
 ]
 # Files at the top of specs/ that no buyer needs: the root, and a program's table.

@@ -9,7 +9,7 @@ use Rattle.info.specs.Reads.{RomRead}
 use Rattle.fw_parser.specs.declared.Settings.{Settings}
 use Rattle.fw_parser.specs.Opening.{Opened, refused, opened, openP, opening, setRowsLeft, romRowsLeft}
 use Rattle.cut_short.specs.Shown.{EndedOpening, KeptOpening}
-use Rattle.cut_short.specs.FirstRead.{FirstRead}
+use Rattle.cut_short.specs.ReadAfter.{readAfter}
 
 -- the opening of an image with lent rows
 abbrev pub openWith : Settings → (sets roms : List ℕ) → List ℕ → Opened
@@ -34,5 +34,6 @@ pub record Demand3 (s : Settings) (sets roms : List ℕ) (x : List ℕ) (k : ℕ
   pub ended-below : k < reachWith s sets roms x → EndedOpening (openWith s sets roms (take k x))
   -- and what is shown without that mark is the whole image's
   pub items-kept : KeptOpening (openWith s sets roms (take k x)) (openWith s sets roms x)
-  -- a first ROM read that succeeds on the cut image succeeds on the whole, with the same bytes
-  pub reads-kept : (r : RomRead) (bs : List ℕ) → FirstRead s sets roms (take k x) r bs → FirstRead s sets roms x r bs
+  -- a ROM read that succeeds on the cut image, the first or a later one, succeeds on the whole with the same bytes
+  pub reads-kept : (count : ℕ) (r : RomRead) → readAfter s sets roms (openWith s sets roms (take k x)) count r (take k x) .number ≡ 0
+      → readAfter s sets roms (openWith s sets roms x) count r x ≡ readAfter s sets roms (openWith s sets roms (take k x)) count r (take k x)

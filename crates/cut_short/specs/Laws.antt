@@ -3,3 +3,4 @@ pub mod CutOpening
 pub mod CutReads
 pub mod Proof
 pub mod Promises
+pub mod Asks

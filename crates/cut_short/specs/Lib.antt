@@ -1,4 +1,4 @@
 pub mod Shown
-pub mod FirstRead
+pub mod ReadAfter
 pub mod Demand3
 pub mod Laws

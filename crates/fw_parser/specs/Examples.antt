@@ -1,11 +1,11 @@
--- Two small whole boards: the definition gives the report and rows that document 01 says, by computation, and so of a cut of each.
+-- Two small whole boards, a cut of each, and one whose walk is refused: the definition gives the report and rows that document 01 says, by computation.
 -- tests/model/boards.py has the images field by field.
 -- Assumes nothing.
 use Prim.Native.Nat.{ℕ}
 use mathlib.Core.Path.{_≡_, refl}
 use mathlib.Core.Bool.{Bool, true, false}
-use mathlib.Core.List.{List, [], _∷_}
-use lib.ListN.{take, replicate}
+use mathlib.Core.List.{List, [], _∷_, _++_}
+use lib.ListN.{take, set, replicate}
 use Rattle.window.specs.Window.{canRead, pastWindow}
 use Rattle.le.specs.Le.{startsWith}
 use Rattle.prog.specs.Prog.{run, trace, endOf, answer, reach, tried, triedShown, readsOf, andThen, triedReads}
@@ -264,3 +264,40 @@ new-reads = refl
 new-cut : seen bases 16 21 (take 811 newImage) ≡ shows (newReport (P.refusedPins 2)) newSetRows (newRomRows 0 0 2 [])
 unfolding pastWindow startsWith run trace endOf canRead answer tried triedShown readsOf andThen triedReads classOf lowAfter highAfter lacking isUtf8 lineOf isRp2350 storageOf portOf hasNul beforeNul judged chunksP textP before headerFields wholeOf headerOf headerP E.extraInfoFields noExtraInfo extraInfoOf extraInfoP metadataOf metadataP P.pinsFields noPins pinsOf pinsP romOf judgeRom romP romsP tableP pointedP setP setsP O.setsItemP walkP romsOf nameP namesP walkNamesP setRow countsOf setRowsAfter romFront nameWords romRow romRows lookP itemsP reportOf verdict openP opening newImage
 new-cut = refl
+
+-- ---- the same board with serve 3 in its second set: refused with 40, after the name of the first set's ROM was read
+
+-- that name stands behind all else: the end of what is shown does not count it
+abbrev refusedImage : List ℕ
+refusedImage = set (set (set newImage 717 3) 736 80) 737 3 ++ replicate 64 0
+
+abbrev refusedReport : SdrrInfo
+refusedReport =
+    record {
+      fields = fieldsOn (version 0 6 1 0) McuLine.Rp2350 McuStorage.Storage2MB 150 true false true false;
+      «build_date» = acceptedText 64 5;
+      «hw_rev» = acceptedText 70 7;
+      «extra_info» = extraOn 536875008 12 (FirePioDefault.Given true) 536879104;
+      metadata = MetadataItem.Looked 0;
+      «rom_sets» = record { number = 40; «rom_set_count» = 2; served = 0 };
+      pins = record { number = 0; pins = newPins };
+    }
+
+-- the count is kept, and every lent word
+refused-board : seenOf (opening bases 3 2 refusedImage) (5 ∷ 6 ∷ 7 ∷ []) (8 ∷ 9 ∷ []) ≡ shows refusedReport (5 ∷ 6 ∷ 7 ∷ []) (8 ∷ 9 ∷ [])
+unfolding pastWindow startsWith run trace endOf canRead answer tried triedShown readsOf andThen triedReads classOf lowAfter highAfter lacking isUtf8 lineOf isRp2350 storageOf portOf hasNul beforeNul judged chunksP textP before headerFields wholeOf headerOf headerP E.extraInfoFields noExtraInfo extraInfoOf extraInfoP metadataOf metadataP P.pinsFields noPins pinsOf pinsP romOf judgeRom romP romsP tableP pointedP setP setsP O.setsItemP walkP romsOf nameP namesP walkNamesP setRow countsOf setRowsAfter romFront nameWords romRow romRows lookP itemsP reportOf verdict openP opening newImage
+refused-board = refl
+
+-- every read: header, date, revision, extra info, metadata, set 0, its overrides, ROM pointer, ROM info, set 1, the name, pins
+refused-reads : tried (openP bases 3 2) refusedImage ≡ 12
+unfolding pastWindow startsWith run trace endOf canRead answer tried triedShown readsOf andThen triedReads classOf lowAfter highAfter lacking isUtf8 lineOf isRp2350 storageOf portOf hasNul beforeNul judged chunksP textP before headerFields wholeOf headerOf headerP E.extraInfoFields noExtraInfo extraInfoOf extraInfoP metadataOf metadataP P.pinsFields noPins pinsOf pinsP romOf judgeRom romP romsP tableP pointedP setP setsP O.setsItemP walkP romsOf nameP namesP walkNamesP setRow countsOf setRowsAfter romFront nameWords romRow romRows lookP itemsP reportOf verdict openP opening newImage
+refused-reads = refl
+
+-- the name is not shown
+refused-shown : triedShown (openP bases 3 2) refusedImage ≡ 11
+unfolding pastWindow startsWith run trace endOf canRead answer tried triedShown readsOf andThen triedReads classOf lowAfter highAfter lacking isUtf8 lineOf isRp2350 storageOf portOf hasNul beforeNul judged chunksP textP before headerFields wholeOf headerOf headerP E.extraInfoFields noExtraInfo extraInfoOf extraInfoP metadataOf metadataP P.pinsFields noPins pinsOf pinsP romOf judgeRom romP romsP tableP pointedP setP setsP O.setsItemP walkP romsOf nameP namesP walkNamesP setRow countsOf setRowsAfter romFront nameWords romRow romRows lookP itemsP reportOf verdict openP opening newImage
+refused-shown = refl
+
+refused-reach : reach (openP bases 3 2) refusedImage ≡ 848
+unfolding pastWindow startsWith run trace endOf canRead answer tried triedShown readsOf andThen triedReads classOf lowAfter highAfter lacking isUtf8 lineOf isRp2350 storageOf portOf hasNul beforeNul judged chunksP textP before headerFields wholeOf headerOf headerP E.extraInfoFields noExtraInfo extraInfoOf extraInfoP metadataOf metadataP P.pinsFields noPins pinsOf pinsP romOf judgeRom romP romsP tableP pointedP setP setsP O.setsItemP walkP romsOf nameP namesP walkNamesP setRow countsOf setRowsAfter romFront nameWords romRow romRows lookP itemsP reportOf verdict openP opening newImage
+refused-reach = refl

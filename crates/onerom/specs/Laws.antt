@@ -11,26 +11,25 @@ use mathlib.Core.List.{List, []}
 use lib.ListN.{length, take}
 use Rattle.window.specs.Window.{baseAfter}
 use Rattle.types.specs.declared.McuLine.{McuLine}
-use Rattle.text.specs.declared.Text.{Text}
 use Rattle.pins.specs.declared.PinsItem.{PinsItem}
-use Rattle.walk.specs.Walk.{RomSet, romsOf}
-use Rattle.walk.specs.Rows.{setRows, romRows, overwritten}
 use Rattle.info.specs.declared.SdrrAddress.{SdrrAddress}
 use Rattle.info.specs.Lent.{Lent}
-use Rattle.info.specs.Reads.{RomRead, range, byte, lengthOf, shownByte, storedP, finished, readP, Reply, romRead, bufferLeft}
+use Rattle.info.specs.Reads.{RomRead, range, byte, shownByte, storedP, finished, readP, Reply, romRead, bufferLeft}
+use Rattle.rom_reads.specs.declared.ByteRead.{ByteRead}
 use Rattle.rom_reads.specs.Calls.{lentBy, byteOf}
 use Rattle.rom_reads.specs.Laws.Promises.{refused-changes-nothing}
 use Rattle.fw_parser.specs.declared.Settings.{Settings}
 use Rattle.fw_parser.specs.declared.SdrrInfo.{SdrrInfo}
-use Rattle.fw_parser.specs.Opening.{Opened, opened, opening}
-use Rattle.cut_short.specs.FirstRead.{lentOf, FirstRead}
+use Rattle.fw_parser.specs.Opening.{Opened, refused, opening, setRowsLeft, romRowsLeft}
+use Rattle.fw_parser.specs.Reply.{openingReply}
+use Rattle.cut_short.specs.ReadAfter.{lentOf, readAfter}
 use Rattle.cut_short.specs.Demand3.{Opens, Demand3}
-use Rattle.cut_short.specs.Laws.Proof.{demand3}
+use Rattle.cut_short.specs.Laws.Proof.{demand3, refused-refuses}
 use Rattle.c_board.specs.Board.{addressFrom}
 use Rattle.c_report.specs.declared.OneromReport.{OneromReport}
 use Rattle.c_report.specs.Report.{reportOut, boardIn}
 use Rattle.c_report.specs.Laws.{handed-back}
-use Rattle.c_open.specs.Opening.{openCall}
+use Rattle.c_open.specs.Opening.{openCall, openingOut}
 use Rattle.c_reads.specs.Reads.{dataCall, byteCall}
 
 -- ---- the reads as they are called: each is a `romRead` by the report and rows as lent
@@ -85,46 +84,66 @@ handed-read f c i sets roms count r x =
     ∙ ap (λ (p : PinsItem). romRead f c (lent (i .fields .«stm_line») p (b .served) sets roms) count r x) (h .pins)
     ∙ ap (λ (n : ℕ). romRead f c (lent (i .fields .«stm_line») (i .pins) n sets roms) count r x) (h .served)
 
--- ---- demand 3
+-- ---- demand 3: reads on what `onerom_open` handed out and left, of a refused opening too
 
--- The image opens with the lent rows, and the read, by the report as it was handed out, is accepted with the bytes bs.
-pub record FirstCall (s : Settings) (sets roms x : List ℕ) (r : RomRead) (bs : List ℕ) : Type 0 where
-  pub report : SdrrInfo
-  pub listed : List RomSet
-  pub names : List Text
-  pub opens : openCall (s .«flash_base») (s .«cs0_base») (s .«info_offset») (length sets) (length roms) x ≡ opened report listed names
-  pub accepts :
-      romRead (s .«flash_base») (s .«cs0_base»)
-      (lentBy (boardIn (s .«flash_base») (s .«cs0_base») (reportOut report)) (overwritten (setRows listed) sets) (overwritten (romRows (romsOf listed) names) roms)) 0 r x
-      ≡ record { number = 0; bytes = bs; count = lengthOf r }
+module _ (f c : ℕ) (sets roms : List ℕ) where
+  abbrev settings : ℕ → Settings
+  settings o = record { «flash_base» = f; «cs0_base» = c; «info_offset» = o }
 
-module _ (s : Settings) (sets roms : List ℕ) where
-  call-read : (x : List ℕ) (r : RomRead) (bs : List ℕ) → FirstCall s sets roms x r bs → FirstRead s sets roms x r bs
-  call-read x r bs a =
-      record {
-        report = a .report;
-        listed = a .listed;
-        names = a .names;
-        opens = a .opens;
-        accepts =
-            sym (handed-read (s .«flash_base») (s .«cs0_base») (a .report) (overwritten (setRows (a .listed)) sets) (overwritten (romRows (romsOf (a .listed)) (a .names)) roms) 0 r x) ∙ a .accepts;
-      }
+  abbrev pub dataAfter : Opened → (set offset n count : ℕ) → List ℕ → Reply
+  dataAfter p set offset n count x = dataCall f c (openingOut p .report) (setRowsLeft p sets) set offset n count x
 
-  read-call : (x : List ℕ) (r : RomRead) (bs : List ℕ) → FirstRead s sets roms x r bs → FirstCall s sets roms x r bs
-  read-call x r bs a =
-      record {
-        report = a .report;
-        listed = a .listed;
-        names = a .names;
-        opens = a .opens;
-        accepts =
-            handed-read (s .«flash_base») (s .«cs0_base») (a .report) (overwritten (setRows (a .listed)) sets) (overwritten (romRows (romsOf (a .listed)) (a .names)) roms) 0 r x ∙ a .accepts;
-      }
+  abbrev pub byteAfter : Bool → Opened → (set logical address : ℕ) → (levels : List ℕ) → (count : ℕ) → List ℕ → ByteRead
+  byteAfter demangled p set logical address levels count x =
+      byteCall demangled f c (openingOut p .report) (setRowsLeft p sets) (romRowsLeft p roms) set logical address levels count x
 
-  -- for every image that opens and every cut: report, rows and items as `Demand3` has them, and every first read
-  pub cut-short : (x : List ℕ) → Opens (openCall (s .«flash_base») (s .«cs0_base») (s .«info_offset») (length sets) (length roms) x) → (k : ℕ) → Demand3 s sets roms x k
-  cut-short x o k = demand3 s sets roms x o k
+  -- both are the reads of which demand 3 speaks
+  data-after : (o : ℕ) (p : Opened) (set offset n count : ℕ) (x : List ℕ)
+      → dataAfter p set offset n count x ≡ readAfter (settings o) sets roms p count (range set offset n) x
+  data-after o p set offset n count x =
+      data-is-read f c (openingOut p .report) (setRowsLeft p sets) (romRowsLeft p roms) set offset n count x
+      ∙ handed-read f c (openingReply p .info) (setRowsLeft p sets) (romRowsLeft p roms) count (range set offset n) x
 
-  pub calls-kept : (x : List ℕ) → Opens (openCall (s .«flash_base») (s .«cs0_base») (s .«info_offset») (length sets) (length roms) x) → (k : ℕ) (r : RomRead) (bs : List ℕ)
-      → FirstCall s sets roms (take k x) r bs → FirstCall s sets roms x r bs
-  calls-kept x o k r bs a = read-call x r bs (cut-short x o k .reads-kept r bs (call-read (take k x) r bs a))
+  byte-after : (o : ℕ) (demangled : Bool) (p : Opened) (set logical address : ℕ) (levels : List ℕ) (count : ℕ) (x : List ℕ)
+      → byteAfter demangled p set logical address levels count x
+      ≡ byteOf (readAfter (settings o) sets roms p count (byte set (addressFrom logical address levels) demangled) x)
+  byte-after o demangled p set logical address levels count x =
+      byte-is-read demangled f c (openingOut p .report) (setRowsLeft p sets) (romRowsLeft p roms) set logical address levels count x
+      ∙ ap byteOf (handed-read f c (openingReply p .info) (setRowsLeft p sets) (romRowsLeft p roms) count (byte set (addressFrom logical address levels) demangled) x)
+
+  -- what a refused opening handed back serves no read
+  pub refused-serves-no-data : (n set offset m count : ℕ) (x : List ℕ) → dataAfter (refused n) set offset m count x .number ≡ 0 → ⊥
+  refused-serves-no-data n set offset m count x h =
+      refused-refuses (settings 0) sets roms n count (range set offset m) x (ap (λ (t : Reply). t .number) (sym (data-after 0 (refused n) set offset m count x)) ∙ h)
+
+  pub refused-serves-no-byte : (demangled : Bool) (n set logical address : ℕ) (levels : List ℕ) (count : ℕ) (x : List ℕ)
+      → byteAfter demangled (refused n) set logical address levels count x .number ≡ 0 → ⊥
+  refused-serves-no-byte demangled n set logical address levels count x h =
+      refused-refuses (settings 0) sets roms n count (byte set (addressFrom logical address levels) demangled) x
+      (ap (λ (t : ByteRead). t .number) (sym (byte-after 0 demangled (refused n) set logical address levels count x)) ∙ h)
+
+  module _ (o : ℕ) (x : List ℕ) (opens : Opens (openCall f c o (length sets) (length roms) x)) (k : ℕ) where
+    abbrev cut : Opened
+    cut = openCall f c o (length sets) (length roms) (take k x)
+
+    abbrev whole : Opened
+    whole = openCall f c o (length sets) (length roms) x
+
+    -- report, rows and items, for every image that opens and every cut
+    pub cut-short : Demand3 (settings o) sets roms x k
+    cut-short = demand3 (settings o) sets roms x opens k
+
+    -- a call that the cut image answers with number 0, the whole answers with the same number, bytes and count
+    pub data-kept : (set offset n count : ℕ) → dataAfter cut set offset n count (take k x) .number ≡ 0
+        → dataAfter whole set offset n count x ≡ dataAfter cut set offset n count (take k x)
+    data-kept set offset n count h =
+        let e = data-after o cut set offset n count (take k x) in
+        data-after o whole set offset n count x
+        ∙ cut-short .reads-kept count (range set offset n) (ap (λ (t : Reply). t .number) (sym e) ∙ h) ∙ sym e
+
+    pub byte-kept : (demangled : Bool) (set logical address : ℕ) (levels : List ℕ) (count : ℕ) → byteAfter demangled cut set logical address levels count (take k x) .number ≡ 0
+        → byteAfter demangled whole set logical address levels count x ≡ byteAfter demangled cut set logical address levels count (take k x)
+    byte-kept demangled set logical address levels count h =
+        let e = byte-after o demangled cut set logical address levels count (take k x) in
+        byte-after o demangled whole set logical address levels count x
+        ∙ ap byteOf (cut-short .reads-kept count (byte set (addressFrom logical address levels) demangled) (ap (λ (t : ByteRead). t .number) (sym e) ∙ h)) ∙ sym e

@@ -60,15 +60,19 @@ sets-served : (n : ℕ) (w : Part (List RomSet)) → Ended w → setsItem n w .s
 sets-served n (stop m passed) e = refl
 sets-served n (found ss) e = absurd e
 
-module _ (h : SdrrInfoHeader) (t w : ItemAnswers) where
-  report-ended : EndedRow t → EndedReport (reportOf h (itemsOf t)) (itemsOf t .names)
+-- one name for each ROM that the rows list
+abbrev Named : ItemAnswers → Type 0
+Named t = length (itemsOf t .names) ≡ length (romsOf (setsOf (itemsOf t .sets .walk)))
+
+module _ (h : SdrrInfoHeader) (t w : ItemAnswers) (named : Named t) where
+  report-ended : EndedRow t → EndedReport (reportOf h (itemsOf t)) (setsOf (itemsOf t .sets .walk)) (itemsOf t .names)
   unfolding reportOf
   report-ended (inl e) = inl e
   report-ended (inr (inl e)) = inr (inl e)
   report-ended (inr (inr (inl e))) = inr (inr (inl e))
   report-ended (inr (inr (inr (inl e)))) = inr (inr (inr (inl (metadata-ended (itemsOf t .metadata) e))))
   report-ended (inr (inr (inr (inr (inl e))))) = inr (inr (inr (inr (inl (sets-number (itemsOf t .sets .count) (itemsOf t .sets .walk) e)))))
-  report-ended (inr (inr (inr (inr (inr (inl e)))))) = inr (inr (inr (inr (inr (inl (name-ended (itemsOf t .names) e))))))
+  report-ended (inr (inr (inr (inr (inr (inl e)))))) = inr (inr (inr (inr (inr (inl (rw (← named) (name-ended (itemsOf t .names) e)))))))
   report-ended (inr (inr (inr (inr (inr (inr e)))))) = inr (inr (inr (inr (inr (inr e)))))
 
   kept : RowCut t w
@@ -90,22 +94,22 @@ module _ (h : SdrrInfoHeader) (t w : ItemAnswers) where
               ap (λ (s : Sets). map romFront (romsOf (setsOf (s .walk)))) e,
             ))
             (c .1 .1 .1 .1 .0);
-        each-name = name-kept (itemsOf t .names) (itemsOf w .names) (c .1 .1 .1 .1 .1 .0);
+        each-name = rw (← named) (λ i l. (l, name-kept (itemsOf t .names) (itemsOf w .names) (c .1 .1 .1 .1 .1 .0) i l));
         pins = c .1 .1 .1 .1 .1 .1;
       }
 
 -- ---- 44 and 45
 
--- refused or an item ended
+-- refused or an item ended, given one name for each ROM row
 abbrev pub EndedAny : Opened → Type 0
 EndedAny (refused n) = Unit {0}
-EndedAny (opened r ss names) = EndedReport r names
+EndedAny (opened r ss names) = length names ≡ length (romsOf ss) → EndedReport r ss names
 
 -- as the two runs of the reads show it, before it is known that the whole opens
 abbrev pub Beside : Opened → Opened → Type 0
 Beside (refused n) w = (n ≡ 2) ⊎ (refused n ≡ w)
 Beside (opened r ss names) (refused m) = Unit {0}
-Beside (opened r ss names) (opened r′ ss′ names′) = Kept r ss names r′ ss′ names′
+Beside (opened r ss names) (opened r′ ss′ names′) = length names ≡ length (romsOf ss) → Kept r ss names r′ ss′ names′
 
 module _ (lentSets lentRoms : ℕ) where
   -- an ended walk lists no set, so no row is short
@@ -122,7 +126,7 @@ module _ (lentSets lentRoms : ℕ) where
           → EndedAny (pick a (refused 44) (pick b (refused 45) (opened (reportOf h (itemsOf t)) (setsOf (itemsOf t .sets .walk)) (itemsOf t .names))))
       go true b = tt
       go false true = tt
-      go false false = report-ended h t t e
+      go false false = λ named. report-ended h t t named e
 
   verdict-beside : (h : SdrrInfoHeader) (t w : ItemAnswers) → RowCut t w → Beside (verdict lentSets lentRoms h (itemsOf t)) (verdict lentSets lentRoms h (itemsOf w))
   unfolding verdict
@@ -146,12 +150,12 @@ module _ (lentSets lentRoms : ℕ) where
       left : (a b : Bool) → Beside this (pick a (refused 44) (pick b (refused 45) whole))
       left true b = tt
       left false true = tt
-      left false false = kept h t w c
+      left false false = λ named. kept h t w named c
 
       same : (a b : Bool) → Beside (pick a (refused 44) (pick b (refused 45) this)) (pick a (refused 44) (pick b (refused 45) whole))
       same true b = inr refl
       same false true = inr refl
-      same false false = kept h t w c
+      same false false = λ named. kept h t w named c
 
 -- ---- through the header
 
@@ -173,7 +177,7 @@ module _ (s : Settings) (lentSets lentRoms : ℕ) where
       go true = rest-cut a
       go false = cut-done (inr refl)
 
-  after-ended : (a : HeaderAnswer) → a .number ≡ 2 → (x : List ℕ) → run (afterHeader s lentSets lentRoms a) x ≡ refused 2
+  pub after-ended : (a : HeaderAnswer) → a .number ≡ 2 → (x : List ℕ) → run (afterHeader s lentSets lentRoms a) x ≡ refused 2
   unfolding run
   after-ended a e x = rw e refl
 

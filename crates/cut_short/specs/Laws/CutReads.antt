@@ -23,7 +23,7 @@ use Rattle.info.specs.Laws.Like.{Like, read-like, read-honest, read-unserved}
 use Rattle.fw_parser.specs.declared.Settings.{Settings}
 use Rattle.fw_parser.specs.declared.SdrrInfo.{SdrrInfo}
 use Rattle.cut_short.specs.Shown.{Kept}
-use Rattle.cut_short.specs.FirstRead.{lentOf}
+use Rattle.cut_short.specs.ReadAfter.{lentOf}
 
 -- ---- the rows
 
@@ -65,10 +65,10 @@ module _ {r r′ : SdrrInfo} {ss ss′ : List RomSet} {names names′ : List Tex
 
 -- ---- a read on the cut image, and on the whole
 
-module _ {l m : Lent} (like : Like l m) (base : ℕ) (r : RomRead) (x : List ℕ) (k : ℕ) where
-  pub read-kept : run (readP base l 0 r) (take k x) .number ≡ 0 → run (readP base l 0 r) (take k x) ≡ run (readP base m 0 r) x
+module _ {l m : Lent} (like : Like l m) (base count : ℕ) (r : RomRead) (x : List ℕ) (k : ℕ) where
+  pub read-kept : run (readP base l count r) (take k x) .number ≡ 0 → run (readP base l count r) (take k x) ≡ run (readP base m count r) x
   read-kept e =
-      let a : run (readP base l 0 r) (take k x) ≡ run (readP base m 0 r) (take k x) = read-like like base 0 r (take k x) e in
+      let a : run (readP base l count r) (take k x) ≡ run (readP base m count r) (take k x) = read-like like base count r (take k x) e in
       a
-      ∙ ⊎-elim (λ (h : run (readP base m 0 r) (take k x) .number ≡ 2). let f = ap (λ (b : Bytes). b .number) (sym a) ∙ e in absurd (omega arith)) (λ h. h)
-      (honest-kept (read-honest base m 0 r) x k)
+      ∙ ⊎-elim (λ (h : run (readP base m count r) (take k x) .number ≡ 2). let f = ap (λ (b : Bytes). b .number) (sym a) ∙ e in absurd (omega arith)) (λ h. h)
+      (honest-kept (read-honest base m count r) x k)

@@ -13,7 +13,7 @@ use Rattle.fw_parser.specs.Laws.Fits.{Fits, opening-fits}
 use Rattle.fw_parser.specs.Laws.Promises.{replied, setsAfter, romsAfter}
 use Rattle.info.specs.Lent.{Lent}
 use Rattle.rom_reads.specs.Calls.{lentBy}
-use Rattle.cut_short.specs.FirstRead.{lentOf}
+use Rattle.cut_short.specs.ReadAfter.{lentOf}
 use Rattle.cut_short.specs.Demand3.{openWith, Opens, reachWith, Demand3}
 use Rattle.cut_short.specs.Laws.Proof.{demand3}
 

@@ -1,11 +1,11 @@
 -- Demand 3, proved: from the cut of each reader, of the whole opening, and of a ROM read.
 -- Assumes nothing.
 use Prim.Native.Nat.{ℕ, _≤_}
-use native.Mathlib.Nat.{zero-add}
+use native.Mathlib.Omega.{arith}
 use mathlib.Core.Path.{_≡_, refl, sym, ap, _∙_, subst}
 use mathlib.Core.Logic.{inl, inr, ⊎-elim}
 use mathlib.Core.Bool.{Bool, true, false}
-use mathlib.Core.List.{List}
+use mathlib.Core.List.{List, []}
 use lib.ListN.{length, take}
 use Rattle.base.specs.Choice.{pick}
 use Rattle.types.specs.declared.McuLine.{McuLine}
@@ -17,13 +17,15 @@ use Rattle.text.specs.declared.Text.{Text}
 use Rattle.walk.specs.Walk.{RomSet, romsOf}
 use Rattle.walk.specs.Rows.{setRows, romRows, overwritten}
 use Rattle.info.specs.Lent.{Lent}
-use Rattle.info.specs.Reads.{Bytes, RomRead, lengthOf, readP, Reply, readReply, romRead}
-use Rattle.info.specs.Laws.Like.{read-unserved}
+use Rattle.info.specs.Reads.{RomRead, readP, Reply, readReply, romRead}
+use Rattle.info.specs.Laws.Like.{Like, read-unserved}
 use Rattle.fw_parser.specs.declared.Settings.{Settings}
 use Rattle.fw_parser.specs.declared.SdrrInfo.{SdrrInfo}
 use Rattle.fw_parser.specs.Opening.{Opened, refused, opened, openP, opening, setRowsLeft, romRowsLeft}
+use Rattle.fw_parser.specs.Reply.{noReport, openingReply}
+use Rattle.fw_parser.specs.Laws.Items.{opened-names}
 use Rattle.cut_short.specs.Shown.{EndedOpening, Kept, KeptOpening}
-use Rattle.cut_short.specs.FirstRead.{lentOf, FirstRead}
+use Rattle.cut_short.specs.ReadAfter.{lentOf, readAfter}
 use Rattle.cut_short.specs.Demand3.{Opens, Demand3}
 use Rattle.cut_short.specs.Laws.CutOpening.{EndedAny, Beside, open-cut}
 use Rattle.cut_short.specs.Laws.CutReads.{kept-like, read-kept}
@@ -31,7 +33,7 @@ use Rattle.cut_short.specs.Laws.CutReads.{kept-like, read-kept}
 abbrev outside : Settings → List ℕ → Bool
 outside s x = beyondWindow (s .«flash_base») (s .«cs0_base») x
 
-opens-inside : (s : Settings) (n m : ℕ) (x : List ℕ) → Opens (opening s n m x) → outside s x ≡ false
+pub opens-inside : (s : Settings) (n m : ℕ) (x : List ℕ) → Opens (opening s n m x) → outside s x ≡ false
 unfolding opening
 opens-inside s n m x o = go (outside s x) (run (openP s n m) x) o
   where
@@ -39,81 +41,70 @@ opens-inside s n m x o = go (outside s x) (run (openP s n m) x) o
     go true w h = absurd h
     go false w h = refl
 
-opening-run : (s : Settings) (n m : ℕ) (x : List ℕ) → outside s x ≡ false → opening s n m x ≡ run (openP s n m) x
+pub opening-run : (s : Settings) (n m : ℕ) (x : List ℕ) → outside s x ≡ false → opening s n m x ≡ run (openP s n m) x
 unfolding opening
 opening-run s n m x e = rw e
 
-ended-opening : (o w : Opened) → Opens w → Beside o w → EndedAny o → EndedOpening o
-ended-opening (refused n) w p (inl e) i = e
-ended-opening (refused n) w p (inr e) i = absurd (subst Opens (sym e) p)
-ended-opening (opened r ss names) w p b i = i
+module _ (s : Settings) (n m : ℕ) (x : List ℕ) where
+  ended-opening : (o w : Opened) → run (openP s n m) x ≡ o → Opens w → Beside o w → EndedAny o → EndedOpening o
+  ended-opening (refused k) w e p (inl two) i = two
+  ended-opening (refused k) w e p (inr same) i = absurd (subst Opens (sym same) p)
+  ended-opening (opened r ss names) w e p b i = i (opened-names s x n m r ss names e)
 
-kept-opening : (o w : Opened) → Opens w → Beside o w → KeptOpening o w
-kept-opening (refused n) w p (inl e) = e
-kept-opening (refused n) w p (inr e) = absurd (subst Opens (sym e) p)
-kept-opening (opened r ss names) (refused m) p b = absurd p
-kept-opening (opened r ss names) (opened r′ ss′ names′) p b = b
+  kept-opening : (o w : Opened) → run (openP s n m) x ≡ o → Opens w → Beside o w → KeptOpening o w
+  kept-opening (refused k) w e p (inl two) = two
+  kept-opening (refused k) w e p (inr same) = absurd (subst Opens (sym same) p)
+  kept-opening (opened r ss names) (refused k) e p b = absurd p
+  kept-opening (opened r ss names) (opened r′ ss′ names′) e p b = b (opened-names s x n m r ss names e)
 
--- what an accepted reply says of the bytes, and back
-reply-bytes : (s : Settings) (l : Lent) (r : RomRead) (x bs : List ℕ) → outside s x ≡ false
-    → romRead (s .«flash_base») (s .«cs0_base») l 0 r x ≡ record { number = 0; bytes = bs; count = lengthOf r }
-    → run (readP (baseAfter (s .«flash_base») (s .«cs0_base») (l .line)) l 0 r) x ≡ record { number = 0; bytes = bs }
-unfolding romRead
-reply-bytes s l r x bs w e =
-    let b = run (readP (baseAfter (s .«flash_base») (s .«cs0_base») (l .line)) l 0 r) x in
-    let f : readReply 0 r b ≡ record { number = 0; bytes = bs; count = lengthOf r } = rw w at e in
-    ap (λ (t : Reply). record { number = t .number; bytes = t .bytes }) f
+-- ---- reads after an opening
 
-bytes-reply : (s : Settings) (l : Lent) (r : RomRead) (x bs : List ℕ) → outside s x ≡ false
-    → run (readP (baseAfter (s .«flash_base») (s .«cs0_base») (l .line)) l 0 r) x ≡ record { number = 0; bytes = bs }
-    → romRead (s .«flash_base») (s .«cs0_base») l 0 r x ≡ record { number = 0; bytes = bs; count = lengthOf r }
-unfolding romRead
-bytes-reply s l r x bs w e = rw (w, e) (ap (λ (n : ℕ). record { number = 0; bytes = bs; count = n }) (zero-add (lengthOf r)))
+module _ (s : Settings) where
+  abbrev baseOf : Lent → ℕ
+  baseOf l = baseAfter (s .«flash_base») (s .«cs0_base») (l .line)
 
--- a read accepted on the cut image's board is the whole's
-read-whole : (s : Settings) (sets roms x : List ℕ) (k : ℕ) {report report′ : SdrrInfo} {ss ss′ : List RomSet} {names names′ : List Text}
-    → outside s x ≡ false → Kept report ss names report′ ss′ names′ → (r : RomRead) (bs : List ℕ)
-    → romRead (s .«flash_base») (s .«cs0_base») (lentOf report (overwritten (setRows ss) sets) (overwritten (romRows (romsOf ss) names) roms)) 0 r (take k x)
-    ≡ record { number = 0; bytes = bs; count = lengthOf r }
-    → romRead (s .«flash_base») (s .«cs0_base») (lentOf report′ (overwritten (setRows ss′) sets) (overwritten (romRows (romsOf ss′) names′) roms)) 0 r x
-    ≡ record { number = 0; bytes = bs; count = lengthOf r }
-read-whole s sets roms x k {report} {report′} {ss} {ss′} {names} {names′} inside kept r bs e =
-    ⊎-elim
-    (λ (h : (report .«rom_sets» .number ≡ 2) × (report .«rom_sets» .served ≡ 0)). absurd (read-unserved (base left) left 0 r (take k x) (h .1) number))
-    (λ h.
-    let like = kept-like kept sets roms h in
-    let same : run (readP (base left) left 0 r) (take k x) ≡ run (readP (base left) right 0 r) x = read-kept like (base left) r x k number in
-    bytes-reply s right r x bs inside
-    (ap (λ (l : McuLine). run (readP (baseAfter (s .«flash_base») (s .«cs0_base») l) right 0 r) x) (sym (like .lines)) ∙ sym same ∙ bytes))
-    (kept .sets)
-  where
-    left : Lent
-    left = lentOf report (overwritten (setRows ss) sets) (overwritten (romRows (romsOf ss) names) roms)
+  -- inside the window, the reply is what the reads answer
+  read-reply : (l : Lent) (count : ℕ) (r : RomRead) (x : List ℕ) → outside s x ≡ false
+      → romRead (s .«flash_base») (s .«cs0_base») l count r x ≡ readReply count r (run (readP (baseOf l) l count r) x)
+  unfolding romRead
+  read-reply l count r x e = rw e
 
-    right : Lent
-    right = lentOf report′ (overwritten (setRows ss′) sets) (overwritten (romRows (romsOf ss′) names′) roms)
+  -- where no set is served, no read is accepted
+  pub unserved-refuses : (l : Lent) (count : ℕ) (r : RomRead) (x : List ℕ) → l .served ≡ 0 → romRead (s .«flash_base») (s .«cs0_base») l count r x .number ≡ 0 → ⊥
+  unfolding romRead
+  unserved-refuses l count r x none h = go (outside s x) h
+    where
+      go : (b : Bool) → pick b (record { number = 1; bytes = []; count = count }) (readReply count r (run (readP (baseOf l) l count r) x)) .number ≡ 0 → ⊥
+      go true e = let z : _≡_ {A = ℕ} 1 0 = e in omega arith
+      go false e = read-unserved (baseOf l) l count r x none e
 
-    base : Lent → ℕ
-    base l = baseAfter (s .«flash_base») (s .«cs0_base») (l .line)
+  -- a read accepted on the cut image's board is the whole's
+  read-whole : {l m : Lent} → Like l m → (count : ℕ) (r : RomRead) (x : List ℕ) (k : ℕ) → outside s x ≡ false
+      → romRead (s .«flash_base») (s .«cs0_base») l count r (take k x) .number ≡ 0
+      → romRead (s .«flash_base») (s .«cs0_base») m count r x ≡ romRead (s .«flash_base») (s .«cs0_base») l count r (take k x)
+  read-whole {l} {m} like count r x k inside h =
+      let cut = read-reply l count r (take k x) (window-cut (s .«flash_base») (s .«cs0_base») x k inside) in
+      let number : run (readP (baseOf l) l count r) (take k x) .number ≡ 0 = ap (λ (t : Reply). t .number) (sym cut) ∙ h in
+      read-reply m count r x inside
+      ∙ ap (λ (i : McuLine). readReply count r (run (readP (baseAfter (s .«flash_base») (s .«cs0_base») i) m count r) x)) (sym (like .lines))
+      ∙ ap (readReply count r) (sym (read-kept like (baseOf l) count r x k number))
+      ∙ sym cut
 
-    bytes : run (readP (base left) left 0 r) (take k x) ≡ record { number = 0; bytes = bs }
-    bytes = reply-bytes s left r (take k x) bs (window-cut (s .«flash_base») (s .«cs0_base») x k inside) e
+  -- what a refused opening handed back serves nothing
+  pub refused-refuses : (sets roms : List ℕ) (n count : ℕ) (r : RomRead) (x : List ℕ) → readAfter s sets roms (refused n) count r x .number ≡ 0 → ⊥
+  unfolding openingReply noReport
+  refused-refuses sets roms n count r x h = unserved-refuses (lentOf noReport sets roms) count r x refl h
 
-    number : run (readP (base left) left 0 r) (take k x) .number ≡ 0
-    number = ap (λ (b : Bytes). b .number) bytes
-
-reads-whole : (s : Settings) (sets roms x : List ℕ) (k : ℕ) (o w : Opened) → outside s x ≡ false
-    → opening s (length sets) (length roms) (take k x) ≡ o → opening s (length sets) (length roms) x ≡ w → Opens w → KeptOpening o w
-    → (r : RomRead) (bs : List ℕ) → FirstRead s sets roms (take k x) r bs → FirstRead s sets roms x r bs
-reads-whole s sets roms x k o (refused n) inside eo ew p kept r bs f = absurd p
-reads-whole s sets roms x k o (opened report′ ss′ names′) inside eo ew p kept r bs f =
-    record {
-      report = report′;
-      listed = ss′;
-      names = names′;
-      opens = ew;
-      accepts = read-whole s sets roms x k inside (subst (λ (t : Opened). KeptOpening t (opened report′ ss′ names′)) (sym eo ∙ f .opens) kept) r bs (f .accepts);
-    }
+  reads-whole : (sets roms x : List ℕ) (k : ℕ) (o w : Opened) → outside s x ≡ false → Opens w → KeptOpening o w → (count : ℕ) (r : RomRead)
+      → readAfter s sets roms o count r (take k x) .number ≡ 0 → readAfter s sets roms w count r x ≡ readAfter s sets roms o count r (take k x)
+  unfolding openingReply
+  reads-whole sets roms x k (refused n) w inside p kept count r h = absurd (refused-refuses sets roms n count r (take k x) h)
+  reads-whole sets roms x k (opened report ss names) (refused n) inside p kept count r h = absurd p
+  reads-whole sets roms x k (opened report ss names) (opened report′ ss′ names′) inside p kept count r h =
+      ⊎-elim
+      (λ (e : (report .«rom_sets» .number ≡ 2) × (report .«rom_sets» .served ≡ 0)).
+      absurd (unserved-refuses (lentOf report (overwritten (setRows ss) sets) (overwritten (romRows (romsOf ss) names) roms)) count r (take k x) (e .1) h))
+      (λ e. read-whole (kept-like kept sets roms e) count r x k inside h) (kept .sets)
 
 pub demand3 : (s : Settings) (sets roms x : List ℕ) → Opens (opening s (length sets) (length roms) x) → (k : ℕ) → Demand3 s sets roms x k
 demand3 s sets roms x o k =
@@ -124,13 +115,13 @@ demand3 s sets roms x o k =
     let cut : opening s n m (take k x) ≡ run (openP s n m) (take k x) = opening-run s n m (take k x) (window-cut (s .«flash_base») (s .«cs0_base») x k inside) in
     let p : Opens (run (openP s n m) x) = subst Opens whole o in
     let b : Beside (run (openP s n m) (take k x)) (run (openP s n m) x) = shown (open-cut s n m) x k in
-    let kept : KeptOpening (opening s n m (take k x)) (opening s n m x) = rw (cut, whole) (kept-opening (run (openP s n m) (take k x)) (run (openP s n m) x) p b) in
+    let kept : KeptOpening (opening s n m (take k x)) (opening s n m x) = rw (cut, whole) (kept-opening s n m (take k x) (run (openP s n m) (take k x)) (run (openP s n m) x) refl p b) in
     let same : reach (openP s n m) x ≤ k → opening s n m (take k x) ≡ opening s n m x = λ h. cut ∙ sym (past (openP s n m) x k h .answers) ∙ sym whole in
     record {
       report-past = same;
       set-rows-past = λ h. ap (λ (t : Opened). setRowsLeft t sets) (same h);
       rom-rows-past = λ h. ap (λ (t : Opened). romRowsLeft t roms) (same h);
-      ended-below = λ h. rw cut (ended-opening (run (openP s n m) (take k x)) (run (openP s n m) x) p b (below (open-cut s n m) x k h));
+      ended-below = λ h. rw cut (ended-opening s n m (take k x) (run (openP s n m) (take k x)) (run (openP s n m) x) refl p b (below (open-cut s n m) x k h));
       items-kept = kept;
-      reads-kept = reads-whole s sets roms x k (opening s n m (take k x)) (opening s n m x) inside refl refl o kept;
+      reads-kept = reads-whole s sets roms x k (opening s n m (take k x)) (opening s n m x) inside o kept;
     }

@@ -6,7 +6,7 @@ use mathlib.Core.Path.{_≡_, refl, sym, ap, _∙_}
 use mathlib.Core.Bool.{Bool, true, false}
 use mathlib.Core.List.{List, [], _∷_}
 use lib.Dec.{eqb}
-use lib.ListN.{getD}
+use lib.ListN.{length, getD}
 use Rattle.base.specs.Laws.{clash}
 use Rattle.base.specs.Choice.{pick}
 use Rattle.window.specs.Window.{baseAfter}
@@ -21,9 +21,10 @@ use Rattle.extra_info.specs.declared.ExtraInfoItem.{ExtraInfoItem}
 use Rattle.extra_info.specs.ExtraInfo.{extraInfoP}
 use Rattle.pins.specs.declared.PinsItem.{PinsItem}
 use Rattle.pins.specs.Pins.{pinsP}
-use Rattle.walk.specs.Walk.{RomSet}
+use Rattle.walk.specs.Walk.{RomSet, Part, stop, found, romsOf}
 use Rattle.walk.specs.Rows.{shortSets, shortRoms}
 use Rattle.walk.specs.Names.{walkNamesP}
+use Rattle.walk.specs.Laws.Ended.{names-each, no-name-shown}
 use Rattle.fw_parser.specs.declared.Settings.{Settings}
 use Rattle.fw_parser.specs.declared.SdrrInfo.{SdrrInfo}
 use Rattle.fw_parser.specs.Opening.{Looked, lookP, Sets, setsItemP, Items, ItemAnswers, itemsOf, itemsP, metadataItem, setsItem, reportOf, setsOf, Opened, refused, opened, verdict, afterHeader, openP}
@@ -126,6 +127,11 @@ pub record ItemsOf (s : Settings) (x : List ℕ) (r : SdrrInfo) (ss : List RomSe
   pub names-read : run (itemP s namesBehindP) x ≡ behind names
   pub pins : run (itemP s pinsItemP) x ≡ behind (r .pins)
 
+walk-names-each : (base : ℕ) (w : Part (List RomSet)) (x : List ℕ) → length (run (walkNamesP base w) x) ≡ length (romsOf (setsOf w))
+unfolding walkNamesP romsOf
+walk-names-each base (stop n passed) x = ap length (no-name-shown base n passed x)
+walk-names-each base (found ss) x = names-each base (romsOf ss) x
+
 module _ (s : Settings) (x : List ℕ) where
   pub header : HeaderAnswer
   header = run (headerP (s .«flash_base») (s .«info_offset»)) x
@@ -190,3 +196,15 @@ module _ (s : Settings) (x : List ℕ) where
       let v = let-through n m h (itemsOf (run (itemsP base h) x)) r ss names (a .1) in
       let p = row-parts base h x in
       (itemsOf (run (itemsP base h) x) .sets, sym (run-bind x (lookP base h) (λ l. setsItemP base h l)) ∙ p .sets, ap (λ (i : SdrrInfo). i .«rom_sets») (v .0), v .1)
+
+  -- one name for each ROM that the rows list
+  pub opened-names : (n m : ℕ) (r : SdrrInfo) (ss : List RomSet) (names : List Text) → run (openP s n m) x ≡ opened r ss names → length names ≡ length (romsOf ss)
+  opened-names n m r ss names e =
+      let h = header .header in
+      let a = accepted-header n m r ss names (sym (open-run n m) ∙ e) in
+      let t = itemsOf (run (itemsP base h) x) in
+      let v = let-through n m h t r ss names (a .1) in
+      let p = row-parts base h x in
+      let read : t .names ≡ run (walkNamesP base (t .sets .walk)) x =
+      sym (p .names) ∙ run-bind x (setsBehindP base h) (λ s. walkNamesP base (s .walk)) ∙ ap (λ (u : Sets). run (walkNamesP base (u .walk)) x) (p .sets) in
+      rw (← v .2, ← v .1, read) (walk-names-each base (t .sets .walk) x)

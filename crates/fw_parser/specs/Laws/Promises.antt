@@ -18,6 +18,7 @@ use Rattle.fw_parser.specs.declared.SdrrInfo.{SdrrInfo}
 use Rattle.fw_parser.specs.declared.Opening.{Opening}
 use Rattle.fw_parser.specs.Opening.{Opened, refused, opened, opening, setRowsLeft, romRowsLeft}
 use Rattle.fw_parser.specs.Reply.{noReport, openingReply}
+use Rattle.fw_parser.specs.Laws.Items.{opened-names}
 use Rattle.fw_parser.specs.Laws.Sanity.{ServedSets, served-sets}
 use Rattle.fw_parser.specs.Laws.Fits.{Fits, opening-fits, opened-run, Front, overwritten-front}
 
@@ -53,13 +54,14 @@ module _ (s : Settings) (sets roms x : List ℕ) where
       go (opened r ss names) e i = absurd (i refl)
 
   -- An accepted opening changes only the rows that it lists: they stand at the front, and every word after them
-  -- is as it was lent. It lists the sets that it serves.
+  -- is as it was lent. It lists the sets that it serves, and has one name for each ROM row.
   pub record Accepted : Type 0 where
     pub report : SdrrInfo
     pub listed : List RomSet
     pub names : List Text
     pub opens : o ≡ opened report listed names
     pub replies : replied s sets roms x .info ≡ report
+    pub named : length names ≡ length (romsOf listed)
     pub serves : ServedSets (report .«rom_sets») listed
     pub set-rows : Front (setWidth * length listed) (setRows listed) sets (setsAfter s sets roms x)
     pub rom-rows : Front (romWidth * length (romsOf listed)) (romRows (romsOf listed) names) roms (romsAfter s sets roms x)
@@ -77,6 +79,7 @@ module _ (s : Settings) (sets roms x : List ℕ) where
             names = names;
             opens = e;
             replies = rw e;
+            named = opened-names s x (length sets) (length roms) r ss names (opened-run (length sets) (length roms) s x r ss names e);
             serves = served-sets s (length sets) (length roms) x r ss names (opened-run (length sets) (length roms) s x r ss names e);
             set-rows = rw e (overwritten-front (setRows ss) sets (setWidth * length ss) (set-rows-length ss) (f .0));
             rom-rows = rw e (overwritten-front (romRows (romsOf ss) names) roms (romWidth * length (romsOf ss)) (rom-rows-length (romsOf ss) names) (f .1));

@@ -1,18 +1,20 @@
--- A failed read of the walk is number 2, and no name of a refused walk is shown.
+-- A failed read of the walk is number 2; each ROM has one name, and no name of a refused walk is shown.
 -- Assumes nothing.
 use Prim.Native.Nat.{ℕ, zero, suc, _+_}
 use native.Mathlib.Nat.{add-zero}
-use mathlib.Core.Path.{_≡_, refl, _∙_}
+use mathlib.Core.Path.{_≡_, refl, ap, _∙_}
 use mathlib.Core.Bool.{Bool}
 use mathlib.Core.List.{List, [], _∷_, _++_}
 use lib.Dec.{ltb, eqb}
+use lib.ListN.{length}
 use Rattle.base.specs.Choice.{pick}
-use Rattle.prog.specs.Prog.{Prog, done, run, trace, tried, triedShown, _>>=_}
-use Rattle.prog.specs.Laws.Run.{run-done, trace-done, tried-done, shown-done, run-aside, trace-aside, shown-aside, tried-aside}
+use Rattle.prog.specs.Prog.{Prog, done, run, also, trace, tried, triedShown, _>>=_}
+use Rattle.text.specs.declared.Text.{Text}
+use Rattle.prog.specs.Laws.Run.{run-done, run-map, run-also, trace-done, tried-done, shown-done, run-aside, trace-aside, shown-aside, tried-aside}
 use Rattle.prog.specs.Laws.Honest.{Honest, honest-done, honest-fetch, honest-pick, honest-bind}
 use Rattle.header.specs.declared.SdrrInfoFields.{SdrrInfoFields}
 use Rattle.walk.specs.Walk.{Rom, RomSet, Part, stop, found, orStop, romP, romsP, tableP, pointedP, setP, setsP, walkP}
-use Rattle.walk.specs.Names.{namesP, walkNamesP}
+use Rattle.walk.specs.Names.{nameP, namesP, walkNamesP}
 
 -- 01 coins "ended" ("Window"): number 2
 abbrev pub Ended : {A : Type 0} → Part A → Type 0
@@ -66,6 +68,15 @@ sets-honest (suc left) base f address passed =
 pub walk-honest : (base : ℕ) (f : SdrrInfoFields) (count pointer : ℕ) → Honest Ended (walkP base f count pointer)
 unfolding walkP
 walk-honest base f count pointer = search (forms, sets-honest) depth 9
+
+-- ---- the names: one for each ROM
+
+pub names-each : (base : ℕ) (rs : List Rom) (x : List ℕ) → length (run (namesP base rs) x) ≡ length rs
+unfolding namesP
+names-each base [] x = ap length (run-done x [])
+names-each base (r ∷ rs) x =
+    rw (run-map x (λ (t : Text × List Text). t .0 ∷ t .1) (also (nameP base (r .name)) λ t. namesP base rs), run-also x (nameP base (r .name)) (λ t. namesP base rs))
+    (ap suc (names-each base rs x))
 
 -- ---- the names of a refused walk: read, and not shown
 

@@ -1,12 +1,12 @@
 use mathlib.Core.Path.{refl}
 use mathlib.Core.List.{[], _∷_, map}
 use borrow.Author.Needs.{needs}
-use Rattle.rom_rules.specs.Input.{bitOf}
+use Rattle.input_word.specs.Input.{bitOf}
 use Rattle.rom_rules.specs.Rules.{rulesOf, drives}
 use Rattle.types.specs.Types.{romTypeOf}
 use Rattle.rom_rules.proofs.Types.{in-arm}
-use Rattle.rom_rules.proofs.drive_words.Statement.{statement}
-use Rattle.rom_rules.proofs.drive_words.Tie as tie
+use Rattle.input_word.proofs.drive_words.Statement.{statement}
+use Rattle.input_word.proofs.drive_words.Tie as tie
 
 enum-told : tie.Need-enum-told
 enum-told c = search needs

@@ -1,8 +1,8 @@
 use mathlib.Core.Path.{sym}
 use borrow.Author.Needs.{needs}
-use Rattle.rom_rules.proofs.Types.{level-at}
-use Rattle.rom_rules.proofs.is_high.Statement.{statement}
-use Rattle.rom_rules.proofs.is_high.Tie as tie
+use Rattle.input_word.proofs.High.{level-at}
+use Rattle.input_word.proofs.is_high.Statement.{statement}
+use Rattle.input_word.proofs.is_high.Tie as tie
 
 enum-told : tie.Need-enum-told
 enum-told c = search needs

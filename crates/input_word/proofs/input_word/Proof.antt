@@ -1,9 +1,9 @@
 use borrow.Author.Needs.{needs}
-use Rattle.rom_rules.specs.Input.{inputWord}
-use Rattle.rom_rules.specs.Laws.{masks-raise}
+use Rattle.input_word.specs.Input.{inputWord}
+use Rattle.input_word.specs.Laws.{masks-raise}
 use Rattle.rom_rules.specs.Rules.{drives}
-use Rattle.rom_rules.proofs.input_word.Statement.{statement}
-use Rattle.rom_rules.proofs.input_word.Tie as tie
+use Rattle.input_word.proofs.input_word.Statement.{statement}
+use Rattle.input_word.proofs.input_word.Tie as tie
 
 drive-words-requires : tie.Need-drive-words-requires
 drive-words-requires c κs = search needs

@@ -9,7 +9,7 @@ use lib.Bits.{bitOr}
 use lib.ListN.{length, getD, drop, drop-of-length-le}
 use lib.Seq.{drop-cons}
 use Rattle.base.specs.Choice.{pick}
-use Rattle.rom_rules.specs.Laws.{raisedBy}
+use Rattle.input_word.specs.Laws.{raisedBy}
 
 -- one more level
 pub raised-on : (ms : List ℕ) (ls : List Bool) (w i : ℕ) → i < length ms → i < length ls

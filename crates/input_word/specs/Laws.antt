@@ -6,7 +6,7 @@ use mathlib.Core.Bool.{Bool}
 use mathlib.Core.List.{List, [], _∷_, map}
 use lib.Bits.{bitOr}
 use Rattle.base.specs.Choice.{pick}
-use Rattle.rom_rules.specs.Input.{bitOf, raised}
+use Rattle.input_word.specs.Input.{bitOf, raised}
 
 -- each high level raises its mask
 unfoldable pub raisedBy : List ℕ → List Bool → ℕ → ℕ

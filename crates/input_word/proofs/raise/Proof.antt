@@ -1,7 +1,7 @@
 use mathlib.Core.Path.{sym}
 use lib.Bits.{or-zero-r}
-use Rattle.rom_rules.proofs.raise.Statement.{statement}
-use Rattle.rom_rules.proofs.raise.Tie as tie
+use Rattle.input_word.proofs.raise.Statement.{statement}
+use Rattle.input_word.proofs.raise.Tie as tie
 
 returns : tie.Need-returns
 returns c = rw (c .if1 .taken)

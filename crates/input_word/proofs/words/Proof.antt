@@ -1,5 +1,5 @@
-use Rattle.rom_rules.proofs.words.Statement.{statement}
-use Rattle.rom_rules.proofs.words.Tie as tie
+use Rattle.input_word.proofs.words.Statement.{statement}
+use Rattle.input_word.proofs.words.Tie as tie
 
 returns : tie.Need-returns
 returns c = rw (c .if1 .taken)

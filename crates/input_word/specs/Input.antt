@@ -1,15 +1,14 @@
--- Document 01, "Mangling": a logical address with its levels becomes an input word; 77 and 78.
+-- Document 01, "Mangling": a logical address with its levels becomes an input word.
 use Prim.Native.Nat.{ℕ, _^_}
-use mathlib.Core.Bool.{Bool, not}
+use mathlib.Core.Bool.{Bool}
 use mathlib.Core.List.{List, [], _∷_}
 use lib.Bits.{bitOr}
-use lib.Dec.{ltb, eqb}
 use Rattle.base.specs.Choice.{pick}
 use Rattle.types.specs.Types.{isHigh}
 use Rattle.types.specs.declared.SdrrRomType.{SdrrRomType}
 use Rattle.types.specs.declared.SdrrCsSet.{SdrrCsSet}
 use Rattle.demangle.specs.Bits.{isBit}
-use Rattle.rom_rules.specs.Rules.{mask, drives, is28C16}
+use Rattle.rom_rules.specs.Rules.{drives}
 
 -- CS1, CS2, CS3, X1, X2; a level not given is low
 abbrev pub levels : SdrrCsSet → List Bool
@@ -27,11 +26,3 @@ raised (d ∷ ds) (l ∷ ls) w = raised ds ls (bitOr w (pick l (bitOf d) 0))
 
 unfoldable pub inputWord : SdrrRomType → ℕ → List Bool → ℕ → ℕ
 inputWord type count ls address = raised (drives type count) ls address
-
--- 77: address above the mask
-abbrev pub aboveMask : SdrrRomType → ℕ → Bool
-aboveMask type address = ltb (mask type) address
-
--- 72 to 76 are the map's number n; 77 and 78 come after it
-unfoldable pub mangleNumber : ℕ → SdrrRomType → ℕ → ℕ
-mangleNumber n type address = pick (not (eqb n 0)) n (pick (aboveMask type address) 77 (pick (is28C16 type) 78 0))

@@ -3,10 +3,10 @@ use native.Mathlib.Omega.{arith}
 use mathlib.Core.Path.{_≡_, _∙_, sym, refl}
 use lib.ListN.{length, drop}
 use borrow.Author.Needs.{needs}
-use Rattle.rom_rules.specs.Laws.{raisedBy}
-use Rattle.rom_rules.proofs.Steps.{raised-on, raised-end}
-use Rattle.rom_rules.proofs.raised.Statement.{statement}
-use Rattle.rom_rules.proofs.raised.Tie as tie
+use Rattle.input_word.specs.Laws.{raisedBy}
+use Rattle.input_word.proofs.Steps.{raised-on, raised-end}
+use Rattle.input_word.proofs.raised.Statement.{statement}
+use Rattle.input_word.proofs.raised.Tie as tie
 
 abbrev Inv-loop : tie.InvT-loop
 Inv-loop word masks levels w₀ i₀ w i = (i ≤ 5) × (raisedBy (drop i masks) (drop i levels) w ≡ raisedBy masks levels word)

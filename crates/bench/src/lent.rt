@@ -54,7 +54,7 @@ fn touch(
 ) -> u8 {
     let mut one = [0u8; 1];
     if is_empty {
-        let none = rom_reads::read_rom_set_data(
+        let none = data_reads::read_rom_set_data(
             image,
             board,
             set_rows,
@@ -65,13 +65,13 @@ fn touch(
         );
         return none.number;
     }
-    let r = rom_reads::read_rom_set_data(image, board, set_rows, set, offset, &mut one, 0);
+    let r = data_reads::read_rom_set_data(image, board, set_rows, set, offset, &mut one, 0);
     r.number
 }
 
 // Whether the dump holds all of a set's bytes: it does if it holds the first and the last. 0, or the refusal's number.
 pub(crate) fn data_number(image: &[u8], board: Board, set_rows: &[u32], set: u32) -> u8 {
-    let size = rom_reads::get_rom_set_size(board.served, set_rows, set);
+    let size = set_data::get_rom_set_size(board.served, set_rows, set);
     if size.number != 0 {
         return size.number;
     }

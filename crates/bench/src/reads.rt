@@ -40,7 +40,7 @@ fn fill_end(number: u8, length: usize) -> Filled
 // 80: no such set. 113: the set's ROM count or first type differs from set 0's, by which a logical read goes. Sets without ROMs have no
 // type that could differ: the library says 74 of them.
 fn logical_number(board: Board, set_rows: &[u32], rom_rows: &[u32], set: u32) -> u8 {
-    let size = rom_reads::get_rom_set_size(board.served, set_rows, set);
+    let size = set_data::get_rom_set_size(board.served, set_rows, set);
     if size.number != 0 {
         return size.number;
     }
@@ -72,7 +72,7 @@ fn fill(
     let mut i: usize = 0;
     while i < out.len() {
         let address = SdrrAddress::Logical((i % 4294967296) as u32, cs_set);
-        let r = rom_reads::read_rom_byte_demangled(
+        let r = byte_reads::read_rom_byte_demangled(
             image,
             board,
             set_rows,
@@ -149,7 +149,7 @@ fn raw_part(
     offset: u32,
     space: &mut [u8],
 ) -> bool {
-    let r = rom_reads::read_rom_set_data(image, board, set_rows, set, offset, space, 0);
+    let r = data_reads::read_rom_set_data(image, board, set_rows, set, offset, space, 0);
     if r.number != 0 {
         return false;
     }
@@ -225,12 +225,12 @@ pub(crate) fn byte(
     let at = request.address;
     let cs_set = levels::cs_set(request.levels);
     let address = SdrrAddress::Logical(at, cs_set);
-    let r = rom_reads::read_rom_byte_demangled(image, board, set_rows, rom_rows, set, address, 0);
+    let r = byte_reads::read_rom_byte_demangled(image, board, set_rows, rom_rows, set, address, 0);
     if r.number != 0 {
         refuse::part(request, r.number, b", set %d, address %x", &[set, at]);
         return;
     }
-    let s = rom_reads::read_rom_byte_raw(image, board, set_rows, rom_rows, set, address, 0);
+    let s = byte_reads::read_rom_byte_raw(image, board, set_rows, rom_rows, set, address, 0);
     let pins = board.pins;
     let m = info::mangle_address(pins, board.served, set_rows, rom_rows, at, cs_set);
     show_byte(request, r.byte, s.byte, m.value);

@@ -94,7 +94,7 @@ fn demangle(board: Board, call: Call) -> Reply {
 }
 
 fn size(board: Board, sets: &[u32], call: Call) -> Reply {
-    let r = rom_reads::get_rom_set_size(board.served, sets, call.set);
+    let r = set_data::get_rom_set_size(board.served, sets, call.set);
     Reply {
         number: r.number,
         value: r.value,
@@ -113,7 +113,7 @@ fn same(board: Board, sets: &[u32], roms: &[u32], call: Call) -> Reply {
 
 fn data(image: &[u8], board: Board, sets: &[u32], call: Call, buffer: &mut [u8]) -> Reply {
     words::fill_bytes(buffer);
-    let r = rom_reads::read_rom_set_data(
+    let r = data_reads::read_rom_set_data(
         image,
         board,
         sets,
@@ -133,9 +133,9 @@ fn data(image: &[u8], board: Board, sets: &[u32], call: Call, buffer: &mut [u8])
 fn byte(image: &[u8], board: Board, sets: &[u32], roms: &[u32], call: Call) -> Reply {
     let a = address(call);
     let r = if call.kind % 2 == 1 {
-        rom_reads::read_rom_byte_demangled(image, board, sets, roms, call.set, a, call.count)
+        byte_reads::read_rom_byte_demangled(image, board, sets, roms, call.set, a, call.count)
     } else {
-        rom_reads::read_rom_byte_raw(image, board, sets, roms, call.set, a, call.count)
+        byte_reads::read_rom_byte_raw(image, board, sets, roms, call.set, a, call.count)
     };
     Reply {
         number: r.number,

@@ -10,8 +10,9 @@ use Rattle.pins.specs.Pins.{eightZeros}
 use Rattle.mangle.specs.declared.Mangled.{Mangled}
 use Rattle.demangle.specs.declared.Demangled.{Demangled}
 use Rattle.info.specs.declared.Valued.{Valued}
-use Rattle.info.specs.declared.GoverningSet.{GoverningSet}
-use Rattle.info.specs.Lent.{governingSet0, mangledBy, demangleByte}
+use Rattle.governing.specs.declared.GoverningSet.{GoverningSet}
+use Rattle.governing.specs.Governing.{governingSet0}
+use Rattle.info.specs.Lent.{mangledBy, demangleByte}
 use Rattle.info.specs.Laws.Steps.{in-two}
 use Rattle.c_board.specs.Board.{levelsFrom, pinsFrom, pinsItem}
 use Rattle.c_board.specs.Value.{valueAfter}

@@ -48,7 +48,7 @@ pub fn mangle_call(
 {
     let pins = c_board::pins_from(rom_pins, [0, 0, 0, 0, 0, 0, 0, 0], *addr, *control);
     let set = c_board::levels_from(*levels);
-    let g = info::governing_set_0(pins_number, served, set_rows, rom_rows);
+    let g = governing::governing_set_0(pins_number, served, set_rows, rom_rows);
     let m = info::mangle_by(g, pins, address, set);
     if m.number != 0 {
         return m.number as u32;
@@ -76,7 +76,7 @@ pub fn size_call(served: u32, set_rows: &[u32], set: u32, value: &mut u32) -> u3
     ensures reply { λ r. ⌜ r ≡ sizeCall served (now («set_rows» .entry)) set .number ⌝ }
     ensures value { λ r. ⌜ now (value .exit) ≡ valueAfter r (sizeCall served (now («set_rows» .entry)) set .value) (now (value .entry)) ⌝ }
 {
-    let s = rom_reads::get_rom_set_size(served, set_rows, set);
+    let s = set_data::get_rom_set_size(served, set_rows, set);
     if s.number != 0 {
         return s.number as u32;
     }

@@ -5,11 +5,13 @@ use mathlib.Core.Path.{_≡_, ap, ap₂, _∙_}
 use mathlib.Core.Bool.{Bool}
 use mathlib.Core.List.{List, []}
 use Rattle.info.specs.declared.SdrrAddress.{SdrrAddress}
+use Rattle.info.specs.Lent.{lentBy}
 use Rattle.info.specs.Reads.{range, byte, Reply, romRead, bufferLeft}
 use Rattle.board.specs.declared.Board.{Board}
-use Rattle.rom_reads.specs.declared.Counted.{Counted}
-use Rattle.rom_reads.specs.declared.ByteRead.{ByteRead}
-use Rattle.rom_reads.specs.Calls.{lentBy, countedOf, byteOf}
+use Rattle.data_reads.specs.declared.Counted.{Counted}
+use Rattle.byte_reads.specs.declared.ByteRead.{ByteRead}
+use Rattle.data_reads.specs.Calls.{countedOf}
+use Rattle.byte_reads.specs.Calls.{byteOf}
 use Rattle.c_report.specs.declared.OneromReport.{OneromReport}
 use Rattle.c_report.specs.Report.{boardIn}
 use Rattle.c_board.specs.Board.{addressFrom}

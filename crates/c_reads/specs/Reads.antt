@@ -2,9 +2,10 @@
 use Prim.Native.Nat.{ℕ}
 use mathlib.Core.Bool.{Bool}
 use mathlib.Core.List.{List, []}
+use Rattle.info.specs.Lent.{lentBy}
 use Rattle.info.specs.Reads.{range, byte, Reply, romRead}
-use Rattle.rom_reads.specs.declared.ByteRead.{ByteRead}
-use Rattle.rom_reads.specs.Calls.{lentBy, byteOf}
+use Rattle.byte_reads.specs.declared.ByteRead.{ByteRead}
+use Rattle.byte_reads.specs.Calls.{byteOf}
 use Rattle.c_report.specs.declared.OneromReport.{OneromReport}
 use Rattle.c_report.specs.Report.{boardIn}
 use Rattle.c_board.specs.Board.{addressFrom}

@@ -24,7 +24,7 @@ pub fn data_call(
 {
     let board = c_report::board_in(flash_base, cs0_base, report);
     let before = *count;
-    let stored = rom_reads::read_rom_set_data(image, board, set_rows, set, offset, buffer, before);
+    let stored = data_reads::read_rom_set_data(image, board, set_rows, set, offset, buffer, before);
     *count = stored.count;
     stored.number as u32
 }
@@ -49,7 +49,7 @@ pub fn raw_byte_call(
 {
     let board = c_report::board_in(flash_base, cs0_base, report);
     let at = c_board::address_from(logical, address, *levels);
-    let raw = rom_reads::read_rom_byte_raw(image, board, set_rows, rom_rows, set, at, *count);
+    let raw = byte_reads::read_rom_byte_raw(image, board, set_rows, rom_rows, set, at, *count);
     *count = raw.count;
     if raw.number != 0 {
         return raw.number as u32;
@@ -78,7 +78,7 @@ pub fn demangled_byte_call(
 {
     let board = c_report::board_in(flash_base, cs0_base, report);
     let at = c_board::address_from(logical, address, *levels);
-    let shown = rom_reads::read_rom_byte_demangled(
+    let shown = byte_reads::read_rom_byte_demangled(
         image,
         board,
         set_rows,

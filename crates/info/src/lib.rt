@@ -1,13 +1,12 @@
 // The calls on an opened board (info.rs): mangling by set 0, demangling. They go by the report and rows as lent.
 use demangle::Demangled;
+use governing::GoverningSet;
 use mangle::Mangled;
 use pins::PinsItem;
 use pins::SdrrPins;
-use rows::SetWord;
 use types::SdrrCsSet;
-use types::SdrrRomType;
 ghost use mathlib.Core.Path.{_≡_};
-ghost use Rattle.info.specs.Lent.{unmangled, ungoverned, lacksFirstRom, governing, governingSet0, mangledBy, mangleAddress, demangleByte};
+ghost use Rattle.info.specs.Lent.{unmangled, mangledBy, mangleAddress, demangleByte};
 
 // An address in a set: a raw offset, or a logical address with its levels.
 pub enum SdrrAddress {
@@ -21,73 +20,10 @@ pub struct Valued {
     pub value: u32,
 }
 
-// What mangling goes by of the rows: a set's ROM count and first type; or 70, 71 or 4, with none.
-pub struct GoverningSet {
-    pub number: u8,
-    pub rom_count: u32,
-    pub rom_type: SdrrRomType,
-}
-
 fn unmangled_by(number: u8) -> Mangled
     ensures { λ r. ⌜ r ≡ unmangled number ⌝ }
 {
     Mangled { number, value: 0 }
-}
-
-// Whether a set has ROMs and its first ROM row can't be used.
-fn lacks_first_rom(set_rows: &[u32], rom_rows: &[u32], set: u32) -> bool
-    ensures { λ r. ⌜ r ≡ lacksFirstRom (now («set_rows» .entry)) (now («rom_rows» .entry)) «set» ⌝ }
-{
-    let count = rows::set_word(set_rows, set, SetWord::RomCount);
-    let first = rows::set_word(set_rows, set, SetWord::FirstRom);
-    base::both(count != 0, rows::is_bad_rom_row(rom_rows, first))
-}
-
-fn ungoverned_by(number: u8) -> GoverningSet
-    ensures { λ r. ⌜ r ≡ ungoverned number ⌝ }
-{
-    GoverningSet {
-        number,
-        rom_count: 0,
-        rom_type: SdrrRomType::Rom2316,
-    }
-}
-
-// A set as mangling goes by it, or 4.
-pub fn governing(set_rows: &[u32], rom_rows: &[u32], set: u32) -> GoverningSet
-    ensures { λ r. ⌜ r ≡ governing (now («set_rows» .entry)) (now («rom_rows» .entry)) «set» ⌝ }
-{
-    if !rows::has_set_row(set_rows, set) {
-        return ungoverned_by(4);
-    }
-    if lacks_first_rom(set_rows, rom_rows, set) {
-        return ungoverned_by(4);
-    }
-    let rom_count = rows::set_word(set_rows, set, SetWord::RomCount);
-    let rom_type = rows::rom_type(rom_rows, rows::set_word(set_rows, set, SetWord::FirstRom));
-    GoverningSet {
-        number: 0,
-        rom_count,
-        rom_type,
-    }
-}
-
-// Set 0 governs: 70 and 71 before its rows are looked at.
-pub fn governing_set_0(
-    pins_number: u8,
-    served: u32,
-    set_rows: &[u32],
-    rom_rows: &[u32],
-) -> GoverningSet
-    ensures { λ r. ⌜ r ≡ governingSet0 «pins_number» served (now («set_rows» .entry)) (now («rom_rows» .entry)) ⌝ }
-{
-    if pins_number != 0 {
-        return ungoverned_by(70);
-    }
-    if served == 0 {
-        return ungoverned_by(71);
-    }
-    governing(set_rows, rom_rows, 0)
 }
 
 pub fn mangle_by(set: GoverningSet, pins: SdrrPins, address: u32, cs_set: SdrrCsSet) -> Mangled
@@ -111,7 +47,7 @@ pub fn mangle_address(
 ) -> Mangled
     ensures { λ r. ⌜ r ≡ mangleAddress pins served (now («set_rows» .entry)) (now («rom_rows» .entry)) address «cs_set» ⌝ }
 {
-    let g = governing_set_0(pins.number, served, set_rows, rom_rows);
+    let g = governing::governing_set_0(pins.number, served, set_rows, rom_rows);
     let p = pins.pins;
     mangle_by(g, p, address, cs_set)
 }

@@ -9,8 +9,7 @@ use Rattle.types.specs.declared.SdrrRomType.{SdrrRomType}
 use Rattle.demangle.specs.Bits.{isBit, takenBit}
 use Rattle.pin_words.specs.declared.Placed.{Placed}
 use Rattle.pin_words.specs.Code.{onPin}
-use Rattle.rom_rules.specs.Rules.{rulesOf, controlBits, several}
-use Rattle.rom_rules.specs.Input.{mangleNumber}
+use Rattle.rom_rules.specs.Rules.{rulesOf, controlBits, several, mangleNumber}
 use Rattle.mangle.specs.declared.Mangled.{Mangled}
 use Rattle.mangle.specs.Mangle.{mangledTo}
 use Rattle.mangle.specs.PinMap.{off, controlOff}

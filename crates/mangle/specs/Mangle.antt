@@ -8,7 +8,8 @@ use Rattle.types.specs.declared.SdrrRomType.{SdrrRomType}
 use Rattle.types.specs.declared.SdrrCsSet.{SdrrCsSet}
 use Rattle.pins.specs.declared.SdrrPins.{SdrrPins}
 use Rattle.demangle.specs.Bits.{gather}
-use Rattle.rom_rules.specs.Input.{levels, inputWord, mangleNumber}
+use Rattle.rom_rules.specs.Rules.{mangleNumber}
+use Rattle.input_word.specs.Input.{levels, inputWord}
 use Rattle.mangle.specs.declared.PinMap.{PinMap}
 use Rattle.mangle.specs.declared.Mangled.{Mangled}
 use Rattle.mangle.specs.PinMap.{pinMap}

@@ -3,10 +3,10 @@ pub mod map; // the sixteen pins
 
 use base_zero::control_least;
 use base_zero::least_pin;
+use input_word::input_word;
+use input_word::levels;
 use pin_words::address_pins;
 use pins::SdrrPins;
-use rom_rules::input_word;
-use rom_rules::levels;
 use types::SdrrCsSet;
 use types::SdrrRomType;
 ghost use mathlib.Core.Path.{_≡_};

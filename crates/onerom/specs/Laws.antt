@@ -13,11 +13,11 @@ use Rattle.window.specs.Window.{baseAfter}
 use Rattle.types.specs.declared.McuLine.{McuLine}
 use Rattle.pins.specs.declared.PinsItem.{PinsItem}
 use Rattle.info.specs.declared.SdrrAddress.{SdrrAddress}
-use Rattle.info.specs.Lent.{Lent}
+use Rattle.info.specs.Lent.{Lent, lentBy}
 use Rattle.info.specs.Reads.{RomRead, range, byte, shownByte, storedP, finished, readP, Reply, romRead, bufferLeft}
-use Rattle.rom_reads.specs.declared.ByteRead.{ByteRead}
-use Rattle.rom_reads.specs.Calls.{lentBy, byteOf}
-use Rattle.rom_reads.specs.Laws.Promises.{refused-changes-nothing}
+use Rattle.byte_reads.specs.declared.ByteRead.{ByteRead}
+use Rattle.byte_reads.specs.Calls.{byteOf}
+use Rattle.info.specs.Laws.History.{refused-changes-nothing}
 use Rattle.fw_parser.specs.declared.Settings.{Settings}
 use Rattle.fw_parser.specs.declared.SdrrInfo.{SdrrInfo}
 use Rattle.fw_parser.specs.Opening.{Opened, refused, opening, setRowsLeft, romRowsLeft}

@@ -1,17 +1,14 @@
--- What the arms of a `match` give: the number of the type of ROM, or of the level, is one of the arm's keys.
+-- What the arms of a `match` give: the number of the type of ROM is one of the arm's keys.
 -- Assumes nothing.
 use Prim.Native.Nat.{ℕ}
 use mathlib.Core.Path.{_≡_, refl, _∙_, sym, ap}
 use mathlib.Core.List.{List, [], _∷_, map}
 use mathlib.Core.Logic.{inl, inr}
-use lib.Dec.{eqb}
 use denote.Enum.Declared.{tagOf}
 use types.Run.{OneOf}
 use Rattle.types.specs.declared.SdrrRomType.{SdrrRomType}
-use Rattle.types.specs.declared.Level.{Level}
-use Rattle.types.specs.Types.{romTypeOf, isHigh}
+use Rattle.types.specs.Types.{romTypeOf}
 use Rattle.types.proofs.SdrrRomType.{the-type}
-use Rattle.types.proofs.Level.{the-type as level-type}
 
 again : (t : SdrrRomType) → romTypeOf (tagOf the-type t) ≡ t
 unfolding romTypeOf
@@ -64,9 +61,3 @@ at-key f v (k ∷ j ∷ ks) n (inr h) e = at-key f v (j ∷ ks) n h (cc)
 pub in-arm : {A : Type 0} (f : SdrrRomType → A) (t : SdrrRomType) (ks : List ℕ) (r v : A)
     → OneOf ks (tagOf the-type t) → Each f v ks → r ≡ v → r ≡ f t
 in-arm f t ks r v h e q = q ∙ (sym (at-key f v ks (tagOf the-type t) h e) ∙ ap f (again t))
-
-pub level-at : (l : Level) (n : ℕ) → tagOf level-type l ≡ n → isHigh l ≡ eqb n 2
-unfolding isHigh
-level-at Level.NotGiven n e = rw (← e)
-level-at Level.Low n e = rw (← e)
-level-at Level.High n e = rw (← e)

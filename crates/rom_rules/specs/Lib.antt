@@ -1,3 +1,1 @@
 pub mod Rules
-pub mod Input
-pub mod Laws

@@ -1,8 +1,8 @@
--- Document 01, "Mangling": the masks, the control pins and the levels of each type, as in the Rust.
+-- Document 01, "Mangling": the masks, the control pins and the levels of each type, as in the Rust; 77 and 78.
 use Prim.Native.Nat.{ℕ}
-use mathlib.Core.Bool.{Bool, true, false}
+use mathlib.Core.Bool.{Bool, true, false, not}
 use mathlib.Core.List.{List, [], _∷_}
-use lib.Dec.{leb, eqb}
+use lib.Dec.{ltb, leb, eqb}
 use Rattle.base.specs.Choice.{pick}
 use Rattle.types.specs.Types.{romTypeNumber}
 use Rattle.types.specs.declared.SdrrRomType.{SdrrRomType}
@@ -73,3 +73,11 @@ several count = leb 2 count
 unfoldable pub drives : SdrrRomType → ℕ → List ℕ
 drives t count =
     rulesOf t .«by_cs1» ∷ rulesOf t .«by_cs2» ∷ rulesOf t .«by_cs3» ∷ pick (several count) 14 none ∷ pick (several count) 15 none ∷ []
+
+-- 77: address above the mask
+abbrev pub aboveMask : SdrrRomType → ℕ → Bool
+aboveMask type address = ltb (mask type) address
+
+-- 72 to 76 are the map's number n; 77 and 78 come after it
+unfoldable pub mangleNumber : ℕ → SdrrRomType → ℕ → ℕ
+mangleNumber n type address = pick (not (eqb n 0)) n (pick (aboveMask type address) 77 (pick (is28C16 type) 78 0))

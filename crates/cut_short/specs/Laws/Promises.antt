@@ -1,5 +1,5 @@
 -- Demand 3 of the code. `replied`, `setsAfter` and `romsAfter` (fw_parser/Laws/Promises) are what `parse_flash` ensures; `romRead` is what each read
--- of rom_reads ensures, on a board that `board` makes of the report.
+-- of data_reads and byte_reads ensures, on a board that `board` makes of the report.
 -- Assumes nothing.
 use Prim.Native.Nat.{ℕ, _≤_}
 use mathlib.Core.Path.{_≡_, refl, ap}
@@ -11,8 +11,7 @@ use Rattle.fw_parser.specs.Opening.{Opened, refused, opened}
 use Rattle.fw_parser.specs.Reply.{openingReply, boardOf}
 use Rattle.fw_parser.specs.Laws.Fits.{Fits, opening-fits}
 use Rattle.fw_parser.specs.Laws.Promises.{replied, setsAfter, romsAfter}
-use Rattle.info.specs.Lent.{Lent}
-use Rattle.rom_reads.specs.Calls.{lentBy}
+use Rattle.info.specs.Lent.{Lent, lentBy}
 use Rattle.cut_short.specs.ReadAfter.{lentOf}
 use Rattle.cut_short.specs.Demand3.{openWith, Opens, reachWith, Demand3}
 use Rattle.cut_short.specs.Laws.Proof.{demand3}

@@ -1,19 +1,20 @@
--- Document 01, "ROM data": the served count sums accepted lengths since opening, over any history of reads.
+-- Document 01, "ROM data": the served count sums accepted lengths since opening, over any history of reads; a refused read changes nothing.
 -- Assumes nothing.
 use Prim.Native.Nat.{ℕ, _+_, _≤_}
 use native.Mathlib.Omega.{arith}
+use native.Mathlib.Nat.{zero-add, add-zero}
 use mathlib.Core.Path.{_≡_, refl, sym, ap, _∙_}
 use mathlib.Core.Bool.{Bool, true, false, not}
 use mathlib.Core.List.{List, [], _∷_}
 use lib.Dec.{ltb, eqb}
-use borrow.Author.Tests.{ltb-false, eqb-true, eq-eqb}
+use borrow.Author.Tests.{ltb-false, eqb-true, eq-eqb, ne-eqb}
 use Rattle.base.specs.Laws.{clash}
 use Rattle.base.specs.Choice.{pick}
 use Rattle.window.specs.Window.{baseAfter, beyondWindow}
 use Rattle.prog.specs.Prog.{run}
 use Rattle.prog.specs.Laws.Run.{run-map}
 use Rattle.info.specs.Lent.{Lent}
-use Rattle.info.specs.Reads.{Bytes, noBytes, countNumber, RomRead, lengthOf, storedP, shownOf, finished, readP, Reply, readReply, romRead, countAfter}
+use Rattle.info.specs.Reads.{Bytes, noBytes, countNumber, RomRead, lengthOf, storedP, shownOf, finished, readP, Reply, readReply, romRead, bufferLeft, countAfter}
 
 -- the length of a read that was accepted, 0 of one that was refused
 abbrev pub acceptedLength : Reply → RomRead → ℕ
@@ -79,3 +80,24 @@ module _ (flashBase cs0Base : ℕ) (l : Lent) (x : List ℕ) where
       go : (a : Bool) → pick {A = Reply} a (record { number = 1; bytes = []; count = count }) (readReply count r (run (readP base l count r) x)) .count ≤ 4294967295
       go true = c
       go false = kept (eqb (run (readP base l count r) x .number) 0) refl
+
+  -- ---- a refused read changes no byte of the buffer and no count
+
+  pub record Unchanged (count : ℕ) (lent : List ℕ) (r : Reply) : Type 0 where
+    pub count-kept : r .count ≡ count
+    pub buffer-kept : bufferLeft r lent ≡ lent
+
+  pub refused-changes-nothing : (count : ℕ) (lent : List ℕ) (r : RomRead) → (romRead flashBase cs0Base l count r x .number ≡ 0 → ⊥) → Unchanged count lent (romRead flashBase cs0Base l count r x)
+  refused-changes-nothing count lent r h =
+      let e = ne-eqb (romRead flashBase cs0Base l count r x .number) 0 h in
+      record { count-kept = rw e at (count-step count r) ∙ add-zero count; buffer-kept = rw e }
+
+  -- ---- the served count over any history since opening: the accepted lengths, within 32 bits
+
+  pub history-counts : (rs : List RomRead) → countAfter flashBase cs0Base l x 0 rs ≡ acceptedLengths flashBase cs0Base l x 0 rs
+  history-counts rs = count-sums 0 rs ∙ zero-add (acceptedLengths flashBase cs0Base l x 0 rs)
+
+  pub history-fits : (count : ℕ) → count ≤ 4294967295 → (rs : List RomRead) → countAfter flashBase cs0Base l x count rs ≤ 4294967295
+  unfolding countAfter
+  history-fits count h [] = h
+  history-fits count h (r ∷ rs) = history-fits (romRead flashBase cs0Base l count r x .count) (count-fits count r h) rs

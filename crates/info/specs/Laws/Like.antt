@@ -15,9 +15,10 @@ use Rattle.prog.specs.Prog.{Prog, done, run, mapP}
 use Rattle.prog.specs.Laws.Run.{run-done, run-map}
 use Rattle.prog.specs.Laws.Honest.{Honest, honest-done, honest-fetch, honest-pick, honest-map, honesty}
 use Rattle.types.specs.declared.SdrrCsSet.{SdrrCsSet}
+use Rattle.governing.specs.Governing.{governing, governingSet0}
 use Rattle.mangle.specs.declared.Mangled.{Mangled}
 use Rattle.info.specs.declared.SdrrAddress.{SdrrAddress}
-use Rattle.info.specs.Lent.{Lent, firstRom, typeWord, setNumber, governing, governingSet0, mangledBy, mangleAddress, demangleByte}
+use Rattle.info.specs.Lent.{Lent, firstRom, typeWord, setNumber, mangledBy, mangleAddress, demangleByte}
 use Rattle.info.specs.Reads.{Bytes, noBytes, dataP, shownByte, RomRead, range, byte, physical, byteP, storedP, shownOf, countNumber, lengthOf, finished, readP}
 
 -- the same line, sets and types; pins the same unless they ended

@@ -15,8 +15,8 @@ use Rattle.pins.specs.declared.SdrrPins.{SdrrPins}
 use Rattle.demangle.specs.Bits.{none, isBit, bitAt, takenBit, gather}
 use Rattle.demangle.specs.Laws.{bit-gather, gather-lt, taken-high, pick-lt}
 use Rattle.base_zero.specs.BaseZero.{baseZero}
-use Rattle.rom_rules.specs.Rules.{controlBits, several}
-use Rattle.rom_rules.specs.Input.{levels, inputWord, mangleNumber}
+use Rattle.rom_rules.specs.Rules.{controlBits, several, mangleNumber}
+use Rattle.input_word.specs.Input.{levels, inputWord}
 use Rattle.mangle.specs.PinMap.{unmapped, withAddress, addressMap, withX, controlPins, withControl, withControls, mapNumber, wholeMap, mapBy, mapOf, pinMap}
 use Rattle.mangle.specs.Mangle.{place, mangleBy, mangleOf, mangleCore}
 

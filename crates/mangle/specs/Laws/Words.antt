@@ -19,8 +19,8 @@ use Rattle.demangle.specs.Laws.{taken-lt, bit-gather}
 use Rattle.base_zero.specs.BaseZero.{lowered, leastPin, loweredBy, baseZero}
 use Rattle.pin_words.specs.Code.{onPin, onPins, allHigh, placed}
 use Rattle.pin_words.specs.Laws.{on-lt, all-high}
-use Rattle.rom_rules.specs.Rules.{controlBits, is28C16, several}
-use Rattle.rom_rules.specs.Input.{levels, inputWord, aboveMask, mangleNumber}
+use Rattle.rom_rules.specs.Rules.{controlBits, is28C16, several, aboveMask, mangleNumber}
+use Rattle.input_word.specs.Input.{levels, inputWord}
 use Rattle.mangle.specs.PinMap.{unmapped, withAddress, addressMap, withX, controlPins, withControl, withControls, isMapped, mapNumber, wholeMap, mapBy, mapOf, pinMap}
 use Rattle.mangle.specs.Mangle.{mangledTo, mangleBy, mangleOf, mangleCore}
 use Rattle.mangle.specs.Laws.Bits.{address-length, x-length, one-length}

@@ -1,5 +1,5 @@
 use borrow.Author.Needs.{needs}
-use Rattle.rom_rules.specs.Input.{mangleNumber}
+use Rattle.rom_rules.specs.Rules.{mangleNumber}
 use Rattle.rom_rules.proofs.mangle_number.Statement.{statement}
 use Rattle.rom_rules.proofs.mangle_number.Tie as tie
 

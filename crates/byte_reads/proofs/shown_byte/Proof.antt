@@ -1,0 +1,37 @@
+use native.Mathlib.Omega.{arith}
+use mathlib.Core.Path.{_≡_, sym, ap, _∙_}
+use borrow.Author.Needs.{needs}
+use Rattle.demangle.specs.declared.Demangled.{Demangled}
+use Rattle.byte_reads.specs.Laws.Steps.{shown-refused, shown-79, shown-demangled}
+use Rattle.byte_reads.proofs.shown_byte.Statement.{statement}
+use Rattle.byte_reads.proofs.shown_byte.Tie as tie
+
+returns : tie.Need-returns
+returns c =
+    let entry = c .before .before .args in
+    sym (shown-refused (entry .pins) (entry .raw) (entry .count) (c .if1 .taken))
+
+demangle-byte-requires : tie.Need-demangle-byte-requires
+demangle-byte-requires c κs = search needs
+
+no-byte-requires : tie.Need-no-byte-requires
+no-byte-requires c κs = search needs
+
+returns-2 : tie.Need-returns-2
+returns-2 c =
+    let entry = c .before .before .before .before .before .before .args in
+    let e = c .before .before .before .demangle-byte .ensures in
+    let read : entry .raw .number ≡ 0 = omega arith in
+    rw (shown-79 (entry .pins) (entry .raw) (entry .count) read (rw e at (c .before .if2 .taken)), ← e) (c .no-byte .ensures)
+
+returns-3 : tie.Need-returns-3
+returns-3 c =
+    let entry = c .before .before .before .before .before .args in
+    let d = c .before .before .demangle-byte .result in
+    let e = c .before .before .demangle-byte .ensures in
+    let read : entry .raw .number ≡ 0 = omega arith in
+    let zero : d .number ≡ 0 = omega arith in
+    rw (shown-demangled (entry .pins) (entry .raw) (entry .count) read (ap (λ (b : Demangled). b .number) (sym e) ∙ zero), ← e)
+
+pub shown-byte-spec : {M : Type 1} → statement M
+shown-byte-spec = tie.close (tie.spec returns demangle-byte-requires no-byte-requires returns-2 returns-3)

@@ -1,0 +1,2 @@
+pub mod Governing
+pub mod Laws

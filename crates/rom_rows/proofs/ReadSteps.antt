@@ -23,7 +23,7 @@ use Rattle.walk.specs.Code.Passes.{setsAt}
 use Rattle.walk.specs.Laws.Passes.{sets-length}
 use Rattle.walk.specs.Code.Judged.{judgedOf, walk-found}
 use Rattle.rom_rows.specs.Reply.{refusedWalk, walkReply, walkSetRows, walkRomRows}
-use Rattle.rom_rows.specs.Code.{namedRows, rows-named, named-length, rowsFrom, rows-from}
+use Rattle.write_rows.specs.Code.{namedRows, rows-named, named-length, rowsFrom, rows-from}
 
 -- rows put in at the front: the words, and then what stood there
 at-front : (l ws : List ℕ) → length ws ≤ length l → sets l 0 ws ≡ overwritten ws l

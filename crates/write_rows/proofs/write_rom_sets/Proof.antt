@@ -5,16 +5,16 @@ use lib.Seq.{sets}
 use lib.ListN.{length}
 use borrow.Author.Needs.{needs}
 use Rattle.rows.specs.LentRows.{setWidth, romWidth}
-use Rattle.rom_rows.specs.Code.{rowsFrom, namedRows}
+use Rattle.write_rows.specs.Code.{rowsFrom, namedRows}
 use Rattle.set_header.specs.SetHeader.{strideOf}
 use Rattle.walk.specs.Code.Passes.{setsAt}
 use Rattle.walk.specs.Walk.{romsOf}
 use Rattle.le.specs.Le.{u8At}
 use Rattle.set_header.specs.Laws.{stride-bound}
 use Rattle.walk.specs.Laws.Passes.{romsIn, total-step}
-use Rattle.rom_rows.proofs.RowSteps.{sets-written, all-written, sets-write, all-write}
-use Rattle.rom_rows.proofs.write_rom_sets.Statement.{statement}
-use Rattle.rom_rows.proofs.write_rom_sets.Tie as tie
+use Rattle.write_rows.proofs.RowSteps.{sets-written, all-written, sets-write, all-write}
+use Rattle.write_rows.proofs.write_rom_sets.Statement.{statement}
+use Rattle.write_rows.proofs.write_rom_sets.Tie as tie
 
 abbrev Inv-loop : tie.InvT-loop
 Inv-loop image base filenames long count ptr set-rows₀ rom-rows₀ address₀ left₀ at₀ first₀ set-rows rom-rows address left at first =

@@ -4,9 +4,9 @@ use native.Mathlib.Omega.{arith}
 use mathlib.Core.Path.{_≡_, _∙_, refl}
 use lib.Seq.{sets}
 use lib.ListN.{length, drop, length-set}
-use Rattle.rom_rows.proofs.RowSteps.{put-step, put-end}
-use Rattle.rom_rows.proofs.put_words.Statement.{statement}
-use Rattle.rom_rows.proofs.put_words.Tie as tie
+use Rattle.write_rows.proofs.RowSteps.{put-step, put-end}
+use Rattle.write_rows.proofs.put_words.Statement.{statement}
+use Rattle.write_rows.proofs.put_words.Tie as tie
 
 abbrev Inv-loop : tie.InvT-loop
 Inv-loop rows₀ at words i₀ rows i = (i ≤ length words) × (length rows ≡ length rows₀) × (sets rows (at + i) (drop i words) ≡ sets rows₀ at words)

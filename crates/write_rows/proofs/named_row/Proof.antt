@@ -1,7 +1,7 @@
 use borrow.Author.Needs.{needs}
-use Rattle.rom_rows.proofs.RowSteps.{row-named}
-use Rattle.rom_rows.proofs.named_row.Statement.{statement}
-use Rattle.rom_rows.proofs.named_row.Tie as tie
+use Rattle.write_rows.proofs.RowSteps.{row-named}
+use Rattle.write_rows.proofs.named_row.Statement.{statement}
+use Rattle.write_rows.proofs.named_row.Tie as tie
 
 info-ptr-requires : tie.Need-info-ptr-requires
 info-ptr-requires c κs = search needs

@@ -1,7 +1,7 @@
 use borrow.Author.Needs.{needs}
-use Rattle.rom_rows.specs.Code.{romRowWords}
-use Rattle.rom_rows.proofs.rom_row.Statement.{statement}
-use Rattle.rom_rows.proofs.rom_row.Tie as tie
+use Rattle.write_rows.specs.Code.{romRowWords}
+use Rattle.write_rows.proofs.rom_row.Statement.{statement}
+use Rattle.write_rows.proofs.rom_row.Tie as tie
 
 u8-at-requires : tie.Need-u8-at-requires
 u8-at-requires c κs = search needs
@@ -32,7 +32,9 @@ cast-t11 c = search needs
 
 returns : tie.Need-returns
 unfolding romRowWords
-returns c = cc
+returns c =
+    let d = c .before in
+    rw (d .u8-at4 .ensures, d .before .u8-at3 .ensures, d .before .before .u8-at2 .ensures, d .before .before .before .u8-at .ensures)
 
 pub rom-row-spec : {M : Type 1} → statement M
 rom-row-spec =

@@ -22,7 +22,7 @@ use Rattle.walk.specs.Walk.{noName, nameAt, Rom, RomSet, romOf, romsOf}
 use Rattle.walk.specs.Names.{nameP}
 use Rattle.set_header.specs.SetHeader.{infoPointer, strideOf}
 use Rattle.walk.specs.Code.Passes.{romAt, romsAt, setOf, setAt, after, setsAt}
-use Rattle.rom_rows.specs.Code.{setRowWords, romRowWords, set-words, rom-words, namedRow, namedRows, named-append, named-row-length, named-length, rowsFrom}
+use Rattle.write_rows.specs.Code.{setRowWords, romRowWords, set-words, rom-words, namedRow, namedRows, named-append, named-row-length, named-length, rowsFrom}
 use Rattle.walk.specs.Laws.Passes.{roms-length}
 
 -- ---- words put in one after the other

@@ -5,11 +5,11 @@ use lib.Seq.{sets}
 use lib.ListN.{length}
 use borrow.Author.Needs.{needs}
 use Rattle.rows.specs.LentRows.{romWidth}
-use Rattle.rom_rows.specs.Code.{namedRows}
+use Rattle.write_rows.specs.Code.{namedRows}
 use Rattle.walk.specs.Code.Passes.{romsAt}
-use Rattle.rom_rows.proofs.RowSteps.{roms-written, roms-write}
-use Rattle.rom_rows.proofs.write_roms.Statement.{statement}
-use Rattle.rom_rows.proofs.write_roms.Tie as tie
+use Rattle.write_rows.proofs.RowSteps.{roms-written, roms-write}
+use Rattle.write_rows.proofs.write_roms.Statement.{statement}
+use Rattle.write_rows.proofs.write_roms.Tie as tie
 
 abbrev Inv-loop : tie.InvT-loop
 Inv-loop rows₀ from image base filenames table count entry₀ left₀ at₀ rows entry left at =

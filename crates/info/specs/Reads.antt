@@ -100,9 +100,28 @@ romRead flashBase cs0Base l count r x =
 abbrev pub bufferLeft : Reply → List ℕ → List ℕ
 bufferLeft r lent = pick (eqb (r .number) 0) (r .bytes) lent
 
--- ---- a history: the served count after a list of reads, from the opening on
+-- ---- a history: reads one after another, each with any settings, report, rows and image, altered or not
 
-unfoldable pub countAfter : (flashBase cs0Base : ℕ) → Lent → List ℕ → ℕ → List RomRead → ℕ
-countAfter flashBase cs0Base l x count [] = count
-countAfter flashBase cs0Base l x count (r ∷ rs) =
-    countAfter flashBase cs0Base l x (romRead flashBase cs0Base l count r x .count) rs
+pub record ReadCall : Type 0 where
+  pub flashBase : ℕ
+  pub cs0Base : ℕ
+  pub lent : Lent
+  pub read : RomRead
+  pub image : List ℕ
+
+abbrev pub replyTo : ℕ → ReadCall → Reply
+replyTo count c = romRead (c .flashBase) (c .cs0Base) (c .lent) count (c .read) (c .image)
+
+-- the served count, which each call is lent as the one before left it
+unfoldable pub countAfter : ℕ → List ReadCall → ℕ
+countAfter count [] = count
+countAfter count (c ∷ cs) = countAfter (replyTo count c .count) cs
+
+-- the length of a read that was accepted, 0 of one that was refused
+abbrev pub acceptedLength : Reply → RomRead → ℕ
+acceptedLength t r = pick (eqb (t .number) 0) (lengthOf r) 0
+
+-- the accepted lengths of a history, added up
+unfoldable pub acceptedLengths : ℕ → List ReadCall → ℕ
+acceptedLengths count [] = 0
+acceptedLengths count (c ∷ cs) = acceptedLength (replyTo count c) (c .read) + acceptedLengths (replyTo count c .count) cs

@@ -46,3 +46,10 @@ pinsD1 = 7 ∷ 6 ∷ 5 ∷ 4 ∷ 3 ∷ 2 ∷ 1 ∷ 0 ∷ []
 -- a pin 8
 abbrev pub pinsD2 : List ℕ
 pinsD2 = 7 ∷ 6 ∷ 5 ∷ 8 ∷ 3 ∷ 2 ∷ 1 ∷ 0 ∷ []
+
+-- address pins 0..12; all raised by 8
+abbrev pub pinsM1 : List ℕ
+pinsM1 = 0 ∷ 1 ∷ 2 ∷ 3 ∷ 4 ∷ 5 ∷ 6 ∷ 7 ∷ 8 ∷ 9 ∷ 10 ∷ 11 ∷ 12 ∷ 255 ∷ 255 ∷ 255 ∷ []
+
+abbrev pub pinsM2 : List ℕ
+pinsM2 = 8 ∷ 9 ∷ 10 ∷ 11 ∷ 12 ∷ 13 ∷ 14 ∷ 15 ∷ 16 ∷ 17 ∷ 18 ∷ 19 ∷ 20 ∷ 255 ∷ 255 ∷ 255 ∷ []

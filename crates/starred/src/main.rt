@@ -1,29 +1,35 @@
-// The starred cases of document 01, run by the code. Each function's statement is its row of specs/Table.antt.
+// The starred cases of document 01, run by the exported calls. Each function's statement is its row of specs/Table.antt.
+// What a call is lent holds 9 throughout, so that it shows what was written and what was left.
 ghost use mathlib.Core.Path.{_≡_};
-ghost use mathlib.Core.List.{_∷_};
-ghost use Rattle.starred.specs.Table.{ofRecord, ofString, textWords, byteWords, addressWords, expected};
-ghost use Rattle.mangle.specs.Examples.{board, given};
-ghost use Rattle.types.specs.declared.Level.{Level};
+ghost use mathlib.Core.List.{[], _∷_};
+ghost use Rattle.starred.specs.Table.{ofRecord, ofString, ofByte, ofAddress, expected};
 ghost use Rattle.starred.specs.Table.Case.{R1, R2, R3, R4, T1, T2, T3, D1, D2, M1, M2, M3};
-use demangle::Demangled;
 use libc::STDOUT_FILENO;
-use mangle::Mangled;
-use pins::SdrrPins;
-use text::Text;
-use types::Level;
-use types::SdrrCsSet;
-use types::SdrrMcuPort;
-use types::SdrrRomType;
 
 struct RuntimeAnswer {
     number: u32,
     words: [u32; 25],
 }
 
+struct StringAnswer {
+    number: u32,
+    part: [u32; 2],
+}
+
+struct ByteAnswer {
+    number: u32,
+    value: u8,
+}
+
+struct AddressAnswer {
+    number: u32,
+    value: u32,
+}
+
 fn record_answer(record: &[u8]) -> RuntimeAnswer
     ensures { λ r. ⌜ (r .number ∷ r .words) ≡ ofRecord (now («record» .entry)) ⌝ }
 {
-    let mut words = [0u32; 25];
+    let mut words = [9u32; 25];
     let number = onerom::onerom_runtime(record, 536870912, &mut words);
     RuntimeAnswer { number, words }
 }
@@ -60,30 +66,32 @@ fn case_r4() -> RuntimeAnswer
     )
 }
 
-fn string_answer(image: &[u8]) -> Text
-    ensures { λ r. ⌜ textWords r ≡ ofString (now (image .entry)) ⌝ }
+fn string_answer(image: &[u8]) -> StringAnswer
+    ensures { λ r. ⌜ (r .number ∷ r .part) ≡ ofString (now (image .entry)) ⌝ }
 {
-    text::read_string_at_ptr(image, 134217728, 134217728)
+    let mut part = [9u32; 2];
+    let number = onerom::onerom_string(image, 134217728, 134217728, &mut part);
+    StringAnswer { number, part }
 }
 
-fn case_t1() -> Text
-    ensures { λ r. ⌜ textWords r ≡ expected T1 ⌝ }
+fn case_t1() -> StringAnswer
+    ensures { λ r. ⌜ (r .number ∷ r .part) ≡ expected T1 ⌝ }
 {
     let mut image = [0u8; 64];
     image[0] = 65;
     string_answer(&image)
 }
 
-fn case_t2() -> Text
-    ensures { λ r. ⌜ textWords r ≡ expected T2 ⌝ }
+fn case_t2() -> StringAnswer
+    ensures { λ r. ⌜ (r .number ∷ r .part) ≡ expected T2 ⌝ }
 {
     let mut image = [0u8; 63];
     image[0] = 65;
     string_answer(&image)
 }
 
-fn case_t3() -> Text
-    ensures { λ r. ⌜ textWords r ≡ expected T3 ⌝ }
+fn case_t3() -> StringAnswer
+    ensures { λ r. ⌜ (r .number ∷ r .part) ≡ expected T3 ⌝ }
 {
     let mut image = [0u8; 64];
     image[0] = 0xC0;
@@ -91,133 +99,88 @@ fn case_t3() -> Text
     string_answer(&image)
 }
 
-fn case_d1() -> Demangled
-    ensures { λ r. ⌜ byteWords r ≡ expected D1 ⌝ }
+fn byte_answer(data: &[u8; 8]) -> ByteAnswer
+    ensures { λ r. ⌜ (r .number ∷ r .value ∷ []) ≡ ofByte (now («data» .entry)) ⌝ }
 {
-    demangle::demangle_core([7, 6, 5, 4, 3, 2, 1, 0], 1)
+    let mut value = 9u8;
+    let number = onerom::onerom_demangle(0, data, 1, &mut value);
+    ByteAnswer { number, value }
 }
 
-fn case_d2() -> Demangled
-    ensures { λ r. ⌜ byteWords r ≡ expected D2 ⌝ }
+fn case_d1() -> ByteAnswer
+    ensures { λ r. ⌜ (r .number ∷ r .value ∷ []) ≡ expected D1 ⌝ }
 {
-    demangle::demangle_core([7, 6, 5, 8, 3, 2, 1, 0], 1)
+    let data = [7u8, 6, 5, 4, 3, 2, 1, 0];
+    byte_answer(&data)
 }
 
-// The address pins and CS1 of a 2364's board, on 24 pins; the others are 255.
-fn board_2364(addr: [u8; 16], cs1: u8) -> SdrrPins
-    ensures { λ r. ⌜ r ≡ board addr cs1 255 255 ⌝ }
+fn case_d2() -> ByteAnswer
+    ensures { λ r. ⌜ (r .number ∷ r .value ∷ []) ≡ expected D2 ⌝ }
 {
-    SdrrPins {
-        data_port: SdrrMcuPort::None,
-        addr_port: SdrrMcuPort::None,
-        cs_port: SdrrMcuPort::None,
-        sel_port: SdrrMcuPort::None,
-        status_port: SdrrMcuPort::None,
-        rom_pins: 24,
-        data: [255, 255, 255, 255, 255, 255, 255, 255],
+    let data = [7u8, 6, 5, 8, 3, 2, 1, 0];
+    byte_answer(&data)
+}
+
+// One set with one ROM, a 2364; CS1 high.
+fn address_answer(addr: &[u8; 16], cs1: u8, address: u32) -> AddressAnswer
+    ensures { λ r. ⌜ (r .number ∷ r .value ∷ []) ≡ ofAddress (now (addr .entry)) cs1 address ⌝ }
+{
+    let control = [cs1, 255, 255, 255, 255, 255, 255];
+    let set_row = [0u32, 0, 0, 1, 0, 0, 0, 0];
+    let rom_row = [2u32, 0, 0, 0, 0, 0, 0];
+    let levels = [1u8, 0, 0, 0, 0];
+    let mut value = 9u32;
+    let number = onerom::onerom_mangle(
+        0,
+        24,
         addr,
-        cs1,
-        cs2: 255,
-        cs3: 255,
-        reserved2a: 255,
-        reserved2b: 255,
-        reserved2c: 255,
-        x1: 255,
-        x2: 255,
-        ce: 255,
-        oe: 255,
-        x_jumper_pull: 255,
-        swclk_sel: 255,
-        swdio_sel: 255,
-        sel0: 255,
-        sel1: 255,
-        sel2: 255,
-        sel3: 255,
-        sel4: 255,
-        sel5: 255,
-        sel6: 255,
-        sel_jumper_pull: 255,
-        status: 255,
-        extended: 255,
-        data2: [255, 255, 255, 255, 255, 255, 255, 255],
-        addr2: [
-            255,
-            255,
-            255,
-            255,
-            255,
-            255,
-            255,
-            255,
-            255,
-            255,
-            255,
-            255,
-            255,
-            255,
-            255,
-            255,
-        ],
-    }
+        &control,
+        1,
+        &set_row,
+        &rom_row,
+        address,
+        &levels,
+        &mut value,
+    );
+    AddressAnswer { number, value }
 }
 
-fn cs1_high() -> SdrrCsSet
-    ensures { λ r. ⌜ r ≡ given Level.High Level.NotGiven ⌝ }
+fn case_m1() -> AddressAnswer
+    ensures { λ r. ⌜ (r .number ∷ r .value ∷ []) ≡ expected M1 ⌝ }
 {
-    SdrrCsSet {
-        cs1: Level::High,
-        cs2: Level::NotGiven,
-        cs3: Level::NotGiven,
-        x1: Level::NotGiven,
-        x2: Level::NotGiven,
-    }
+    let addr = [0u8, 1, 2, 3, 4, 5, 6, 7, 8, 9, 10, 11, 12, 255, 255, 255];
+    address_answer(&addr, 13, 5)
 }
 
-fn case_m1() -> Mangled
-    ensures { λ r. ⌜ addressWords r ≡ expected M1 ⌝ }
+fn case_m2() -> AddressAnswer
+    ensures { λ r. ⌜ (r .number ∷ r .value ∷ []) ≡ expected M2 ⌝ }
 {
-    let pins = board_2364(
-        [0, 1, 2, 3, 4, 5, 6, 7, 8, 9, 10, 11, 12, 255, 255, 255],
+    let addr = [
+        8u8,
+        9,
+        10,
+        11,
+        12,
         13,
-    );
-    mangle::mangle_core(pins, 1, SdrrRomType::Rom2364, 5, cs1_high())
+        14,
+        15,
+        16,
+        17,
+        18,
+        19,
+        20,
+        255,
+        255,
+        255,
+    ];
+    address_answer(&addr, 21, 5)
 }
 
-fn case_m2() -> Mangled
-    ensures { λ r. ⌜ addressWords r ≡ expected M2 ⌝ }
+fn case_m3() -> AddressAnswer
+    ensures { λ r. ⌜ (r .number ∷ r .value ∷ []) ≡ expected M3 ⌝ }
 {
-    let pins = board_2364(
-        [
-            8,
-            9,
-            10,
-            11,
-            12,
-            13,
-            14,
-            15,
-            16,
-            17,
-            18,
-            19,
-            20,
-            255,
-            255,
-            255,
-        ],
-        21,
-    );
-    mangle::mangle_core(pins, 1, SdrrRomType::Rom2364, 5, cs1_high())
-}
-
-fn case_m3() -> Mangled
-    ensures { λ r. ⌜ addressWords r ≡ expected M3 ⌝ }
-{
-    let pins = board_2364(
-        [0, 1, 2, 3, 4, 5, 6, 7, 8, 9, 10, 11, 12, 255, 255, 255],
-        13,
-    );
-    mangle::mangle_core(pins, 1, SdrrRomType::Rom2364, 8192, cs1_high())
+    let addr = [0u8, 1, 2, 3, 4, 5, 6, 7, 8, 9, 10, 11, 12, 255, 255, 255];
+    address_answer(&addr, 13, 8192)
 }
 
 fn print_number(n: u32) {
@@ -241,24 +204,24 @@ fn print_runtime(name: &[u8], a: RuntimeAnswer) {
     io::write_all(STDOUT_FILENO, b"\n");
 }
 
-fn print_text(name: &[u8], t: Text) {
+fn print_text(name: &[u8], t: StringAnswer) {
     io::write_all(STDOUT_FILENO, name);
-    print_number(t.number as u32);
-    print_number(t.offset);
-    print_number(t.length);
+    print_number(t.number);
+    let part = t.part;
+    print_words(&part);
     io::write_all(STDOUT_FILENO, b"\n");
 }
 
-fn print_byte(name: &[u8], d: Demangled) {
+fn print_byte(name: &[u8], d: ByteAnswer) {
     io::write_all(STDOUT_FILENO, name);
-    print_number(d.number as u32);
+    print_number(d.number);
     print_number(d.value as u32);
     io::write_all(STDOUT_FILENO, b"\n");
 }
 
-fn print_address(name: &[u8], m: Mangled) {
+fn print_address(name: &[u8], m: AddressAnswer) {
     io::write_all(STDOUT_FILENO, name);
-    print_number(m.number as u32);
+    print_number(m.number);
     print_number(m.value);
     io::write_all(STDOUT_FILENO, b"\n");
 }

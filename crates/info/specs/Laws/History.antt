@@ -14,18 +14,7 @@ use Rattle.window.specs.Window.{baseAfter, beyondWindow}
 use Rattle.prog.specs.Prog.{run}
 use Rattle.prog.specs.Laws.Run.{run-map}
 use Rattle.info.specs.Lent.{Lent}
-use Rattle.info.specs.Reads.{Bytes, noBytes, countNumber, RomRead, lengthOf, storedP, shownOf, finished, readP, Reply, readReply, romRead, bufferLeft, countAfter}
-
--- the length of a read that was accepted, 0 of one that was refused
-abbrev pub acceptedLength : Reply → RomRead → ℕ
-acceptedLength t r = pick (eqb (t .number) 0) (lengthOf r) 0
-
--- the accepted lengths of a history, added up
-unfoldable pub acceptedLengths : (flashBase cs0Base : ℕ) → Lent → List ℕ → ℕ → List RomRead → ℕ
-acceptedLengths flashBase cs0Base l x count [] = 0
-acceptedLengths flashBase cs0Base l x count (r ∷ rs) =
-    acceptedLength (romRead flashBase cs0Base l count r x) r
-    + acceptedLengths flashBase cs0Base l x (romRead flashBase cs0Base l count r x .count) rs
+use Rattle.info.specs.Reads.{Bytes, noBytes, countNumber, RomRead, lengthOf, storedP, shownOf, finished, readP, Reply, readReply, romRead, bufferLeft, ReadCall, replyTo, countAfter, acceptedLength, acceptedLengths}
 
 module _ (flashBase cs0Base : ℕ) (l : Lent) (x : List ℕ) where
   -- one read: an accepted one adds its length, a refused one nothing
@@ -43,15 +32,6 @@ module _ (flashBase cs0Base : ℕ) (l : Lent) (x : List ℕ) where
           ≡ count + acceptedLength (pick b (record { number = 1; bytes = []; count = count }) (readReply count r bs)) r
       go true bs = omega arith
       go false bs = plain (eqb (bs .number) 0) (lengthOf r)
-
-  -- a history: the count is what it was, and the accepted lengths
-  pub count-sums : (count : ℕ) (rs : List RomRead) → countAfter flashBase cs0Base l x count rs ≡ count + acceptedLengths flashBase cs0Base l x count rs
-  unfolding countAfter acceptedLengths
-  count-sums count [] = omega arith
-  count-sums count (r ∷ rs) =
-      let a = count-step count r in
-      let b = count-sums (romRead flashBase cs0Base l count r x .count) rs in
-      omega arith
 
   -- 82 keeps it within 32 bits
   counted : (count : ℕ) (r : RomRead) (b : Bytes) → finished l count r b .number ≡ 0 → count + lengthOf r ≤ 4294967295
@@ -92,12 +72,22 @@ module _ (flashBase cs0Base : ℕ) (l : Lent) (x : List ℕ) where
       let e = ne-eqb (romRead flashBase cs0Base l count r x .number) 0 h in
       record { count-kept = rw e at (count-step count r) ∙ add-zero count; buffer-kept = rw e }
 
-  -- ---- the served count over any history since opening: the accepted lengths, within 32 bits
+-- ---- the served count over any history: the accepted lengths, within 32 bits
 
-  pub history-counts : (rs : List RomRead) → countAfter flashBase cs0Base l x 0 rs ≡ acceptedLengths flashBase cs0Base l x 0 rs
-  history-counts rs = count-sums 0 rs ∙ zero-add (acceptedLengths flashBase cs0Base l x 0 rs)
+pub count-sums : (count : ℕ) (cs : List ReadCall) → countAfter count cs ≡ count + acceptedLengths count cs
+unfolding countAfter acceptedLengths
+count-sums count [] = omega arith
+count-sums count (c ∷ cs) =
+    let a = count-step (c .flashBase) (c .cs0Base) (c .lent) (c .image) count (c .read) in
+    let b = count-sums (replyTo count c .count) cs in
+    omega arith
 
-  pub history-fits : (count : ℕ) → count ≤ 4294967295 → (rs : List RomRead) → countAfter flashBase cs0Base l x count rs ≤ 4294967295
-  unfolding countAfter
-  history-fits count h [] = h
-  history-fits count h (r ∷ rs) = history-fits (romRead flashBase cs0Base l count r x .count) (count-fits count r h) rs
+-- since the opening, whose count is 0
+pub history-counts : (cs : List ReadCall) → countAfter 0 cs ≡ acceptedLengths 0 cs
+history-counts cs = count-sums 0 cs ∙ zero-add (acceptedLengths 0 cs)
+
+pub history-fits : (count : ℕ) → count ≤ 4294967295 → (cs : List ReadCall) → countAfter count cs ≤ 4294967295
+unfolding countAfter
+history-fits count h [] = h
+history-fits count h (c ∷ cs) =
+    history-fits (replyTo count c .count) (count-fits (c .flashBase) (c .cs0Base) (c .lent) (c .image) count (c .read) h) cs

@@ -1,10 +1,10 @@
 use mathlib.Core.Path.{ap, _∙_}
 use borrow.Author.Needs.{needs}
 use borrow.Author.Tests.{eq-eqb, ne-eqb}
-use Rattle.base_zero.specs.BaseZero.{controls, leastOf, leastPin}
-use Rattle.base_zero.specs.Laws.{least-seven}
-use Rattle.base_zero.proofs.least_pin.Statement.{statement}
-use Rattle.base_zero.proofs.least_pin.Tie as tie
+use Rattle.least_pin.specs.LeastPin.{controls, leastOf, leastPin}
+use Rattle.least_pin.specs.Laws.{least-seven}
+use Rattle.least_pin.proofs.least_pin.Statement.{statement}
+use Rattle.least_pin.proofs.least_pin.Tie as tie
 
 least-address-requires : tie.Need-least-address-requires
 least-address-requires c κs = search needs

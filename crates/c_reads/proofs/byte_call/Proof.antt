@@ -1,10 +1,9 @@
 use native.Mathlib.Omega.{arith}
 use mathlib.Core.Path.{_≡_}
-use mathlib.Core.Bool.{false}
 use Rattle.c_reads.proofs.Calls.{byte-refused, byte-given}
 use borrow.Author.Needs.{needs}
-use Rattle.c_reads.proofs.raw_byte_call.Statement.{statement}
-use Rattle.c_reads.proofs.raw_byte_call.Tie as tie
+use Rattle.c_reads.proofs.byte_call.Statement.{statement}
+use Rattle.c_reads.proofs.byte_call.Tie as tie
 
 board-in-requires : tie.Need-board-in-requires
 board-in-requires c κs = search needs
@@ -12,34 +11,34 @@ board-in-requires c κs = search needs
 address-from-requires : tie.Need-address-from-requires
 address-from-requires c κs = search needs
 
-read-rom-byte-raw-requires : tie.Need-read-rom-byte-raw-requires
-read-rom-byte-raw-requires c κs = search needs
+read-byte-requires : tie.Need-read-byte-requires
+read-byte-requires c κs = search needs
 
 cast-result : tie.Need-cast-result
 cast-result c = search needs
 
 returns : tie.Need-returns
 returns c =
-    let call = c .before .before .before .read-rom-byte-raw in
+    let call = c .before .before .before .read-byte in
     let made = c .before .before .before .before .before .before .before .board-in in
     let at = c .before .before .before .before .before .address-from in
-    byte-refused false _ _ _ _ _ _ _ _ _ _ _ (made .result) (at .result) (call .result) (made .ensures) (at .ensures) (call .ensures) _ (c .before .if1 .taken)
+    byte-refused _ _ _ _ _ _ _ _ _ _ _ _ (made .result) (at .result) (call .result) (made .ensures) (at .ensures) (call .ensures) _ (c .before .if1 .taken)
 
 returns-2 : tie.Need-returns-2
 returns-2 c =
-    let call = c .before .before .read-rom-byte-raw in
+    let call = c .before .before .read-byte in
     let made = c .before .before .before .before .before .before .board-in in
     let at = c .before .before .before .before .address-from in
     let zero : call .result .number ≡ 0 = omega arith in
-    byte-given false _ _ _ _ _ _ _ _ _ _ _ (made .result) (at .result) (call .result) (made .ensures) (at .ensures) (call .ensures) zero
+    byte-given _ _ _ _ _ _ _ _ _ _ _ _ (made .result) (at .result) (call .result) (made .ensures) (at .ensures) (call .ensures) zero
 
-pub raw-byte-call-spec : {M : Type 1} → statement M
-raw-byte-call-spec =
+pub byte-call-spec : {M : Type 1} → statement M
+byte-call-spec =
     tie.close
     (tie.spec
     board-in-requires
     address-from-requires
-    read-rom-byte-raw-requires
+    read-byte-requires
     cast-result
     returns
     returns-2)

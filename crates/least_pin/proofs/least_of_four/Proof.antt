@@ -1,6 +1,6 @@
 use borrow.Author.Needs.{needs}
-use Rattle.base_zero.proofs.least_of_four.Statement.{statement}
-use Rattle.base_zero.proofs.least_of_four.Tie as tie
+use Rattle.least_pin.proofs.least_of_four.Statement.{statement}
+use Rattle.least_pin.proofs.least_of_four.Tie as tie
 
 lesser-requires : tie.Need-lesser-requires
 lesser-requires c κs = search needs

@@ -4,7 +4,7 @@ use mathlib.Core.List.{List, map}
 use lib.Dec.{eqb}
 use Rattle.base.specs.Choice.{pick}
 use Rattle.pins.specs.declared.SdrrPins.{SdrrPins}
-pub use Rattle.least_pin.specs.LeastPin.{leastOf, has24, leastPin}
+use Rattle.least_pin.specs.LeastPin.{has24, leastPin}
 
 -- a pin goes down by m; 255, no pin, stays
 unfoldable pub lowered : ℕ → ℕ → ℕ

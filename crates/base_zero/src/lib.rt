@@ -5,7 +5,8 @@ ghost use mathlib.Core.Path.{_≡_};
 ghost use mathlib.Core.List.{map};
 ghost use Prim.Native.Nat.{_-_};
 ghost use Rattle.base.specs.Choice.{pick};
-ghost use Rattle.base_zero.specs.BaseZero.{lowered, has24, loweredBy, baseZero};
+ghost use Rattle.least_pin.specs.LeastPin.{has24};
+ghost use Rattle.base_zero.specs.BaseZero.{lowered, loweredBy, baseZero};
 
 // p less m, and 0 where m is the greater.
 fn less(p: u8, m: u8) -> u8

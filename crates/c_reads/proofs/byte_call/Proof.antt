@@ -5,18 +5,6 @@ use borrow.Author.Needs.{needs}
 use Rattle.c_reads.proofs.byte_call.Statement.{statement}
 use Rattle.c_reads.proofs.byte_call.Tie as tie
 
-board-in-requires : tie.Need-board-in-requires
-board-in-requires c κs = search needs
-
-address-from-requires : tie.Need-address-from-requires
-address-from-requires c κs = search needs
-
-read-byte-requires : tie.Need-read-byte-requires
-read-byte-requires c κs = search needs
-
-cast-result : tie.Need-cast-result
-cast-result c = search needs
-
 returns : tie.Need-returns
 returns c =
     let call = c .before .before .before .read-byte in
@@ -36,9 +24,9 @@ pub byte-call-spec : {M : Type 1} → statement M
 byte-call-spec =
     tie.close
     (tie.spec
-    board-in-requires
-    address-from-requires
-    read-byte-requires
-    cast-result
+    (λ c κs. search needs)
+    (λ c κs. search needs)
+    (λ c κs. search needs)
+    (λ c. search needs)
     returns
     returns-2)

@@ -2,12 +2,6 @@ use borrow.Author.Needs.{needs}
 use Rattle.c_reads.proofs.read_byte.Statement.{statement}
 use Rattle.c_reads.proofs.read_byte.Tie as tie
 
-read-rom-byte-demangled-requires : tie.Need-read-rom-byte-demangled-requires
-read-rom-byte-demangled-requires c κs = search needs
-
-read-rom-byte-raw-requires : tie.Need-read-rom-byte-raw-requires
-read-rom-byte-raw-requires c κs = search needs
-
 returns : tie.Need-returns
 returns c = rw (c .before .if1 .taken) (c .read-rom-byte-demangled .ensures)
 
@@ -17,4 +11,4 @@ returns-2 c = rw (c .before .if1 .left) (c .read-rom-byte-raw .ensures)
 pub read-byte-spec : {M : Type 1} → statement M
 read-byte-spec =
     tie.close
-    (tie.spec read-rom-byte-demangled-requires read-rom-byte-raw-requires returns returns-2)
+    (tie.spec (λ c κs. search needs) (λ c κs. search needs) returns returns-2)

@@ -1,2 +1,1 @@
 pub mod BaseZero
-pub mod Laws

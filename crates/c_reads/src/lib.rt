@@ -1,9 +1,13 @@
 // ROM data and the byte reads as C and Rust call them: by a report handed back.
+use board::Board;
+use byte_reads::ByteRead;
 use c_report::OneromReport;
+use info::SdrrAddress;
 ghost use mathlib.Core.Path.{_≡_};
-ghost use mathlib.Core.Bool.{true, false};
 ghost use lib.ListN.{length};
-ghost use Rattle.info.specs.Reads.{bufferLeft};
+ghost use Rattle.info.specs.Lent.{lentBy};
+ghost use Rattle.info.specs.Reads.{byte, romRead, bufferLeft};
+ghost use Rattle.byte_reads.specs.Calls.{byteOf};
 ghost use Rattle.c_board.specs.Value.{valueAfter};
 ghost use Rattle.c_reads.specs.Reads.{dataCall, byteCall};
 
@@ -29,36 +33,28 @@ pub fn data_call(
     stored.number as u32
 }
 
-pub fn raw_byte_call(
+// One byte of a set, demangled or raw.
+fn read_byte(
     image: &[u8],
-    flash_base: u32,
-    cs0_base: u32,
-    report: OneromReport,
+    board: Board,
     set_rows: &[u32],
     rom_rows: &[u32],
     set: u32,
-    logical: u8,
-    address: u32,
-    levels: &[u8; 5],
-    count: &mut u32,
-    value: &mut u8,
-) -> u32
-    ensures reply { λ r. ⌜ r ≡ byteCall false «flash_base» «cs0_base» report (now («set_rows» .entry)) (now («rom_rows» .entry)) set logical address (now (levels .entry)) (now (count .entry)) (now (image .entry)) .number ⌝ }
-    ensures count { λ r. ⌜ now (count .exit) ≡ byteCall false «flash_base» «cs0_base» report (now («set_rows» .entry)) (now («rom_rows» .entry)) set logical address (now (levels .entry)) (now (count .entry)) (now (image .entry)) .count ⌝ }
-    ensures value { λ r. ⌜ now (value .exit) ≡ valueAfter r (byteCall false «flash_base» «cs0_base» report (now («set_rows» .entry)) (now («rom_rows» .entry)) set logical address (now (levels .entry)) (now (count .entry)) (now (image .entry)) .byte) (now (value .entry)) ⌝ }
+    address: SdrrAddress,
+    demangled: bool,
+    count: u32,
+) -> ByteRead
+    ensures { λ r. ⌜ r ≡ byteOf (romRead (board .«flash_base») (board .«cs0_base») (lentBy board (now («set_rows» .entry)) (now («rom_rows» .entry))) count (byte set address demangled) (now (image .entry))) ⌝ }
 {
-    let board = c_report::board_in(flash_base, cs0_base, report);
-    let at = c_board::address_from(logical, address, *levels);
-    let raw = byte_reads::read_rom_byte_raw(image, board, set_rows, rom_rows, set, at, *count);
-    *count = raw.count;
-    if raw.number != 0 {
-        return raw.number as u32;
+    if demangled {
+        byte_reads::read_rom_byte_demangled(image, board, set_rows, rom_rows, set, address, count)
+    } else {
+        byte_reads::read_rom_byte_raw(image, board, set_rows, rom_rows, set, address, count)
     }
-    *value = raw.byte;
-    0
 }
 
-pub fn demangled_byte_call(
+pub fn byte_call(
+    demangled: bool,
     image: &[u8],
     flash_base: u32,
     cs0_base: u32,
@@ -72,25 +68,17 @@ pub fn demangled_byte_call(
     count: &mut u32,
     value: &mut u8,
 ) -> u32
-    ensures reply { λ r. ⌜ r ≡ byteCall true «flash_base» «cs0_base» report (now («set_rows» .entry)) (now («rom_rows» .entry)) set logical address (now (levels .entry)) (now (count .entry)) (now (image .entry)) .number ⌝ }
-    ensures count { λ r. ⌜ now (count .exit) ≡ byteCall true «flash_base» «cs0_base» report (now («set_rows» .entry)) (now («rom_rows» .entry)) set logical address (now (levels .entry)) (now (count .entry)) (now (image .entry)) .count ⌝ }
-    ensures value { λ r. ⌜ now (value .exit) ≡ valueAfter r (byteCall true «flash_base» «cs0_base» report (now («set_rows» .entry)) (now («rom_rows» .entry)) set logical address (now (levels .entry)) (now (count .entry)) (now (image .entry)) .byte) (now (value .entry)) ⌝ }
+    ensures reply { λ r. ⌜ r ≡ byteCall demangled «flash_base» «cs0_base» report (now («set_rows» .entry)) (now («rom_rows» .entry)) set logical address (now (levels .entry)) (now (count .entry)) (now (image .entry)) .number ⌝ }
+    ensures count { λ r. ⌜ now (count .exit) ≡ byteCall demangled «flash_base» «cs0_base» report (now («set_rows» .entry)) (now («rom_rows» .entry)) set logical address (now (levels .entry)) (now (count .entry)) (now (image .entry)) .count ⌝ }
+    ensures value { λ r. ⌜ now (value .exit) ≡ valueAfter r (byteCall demangled «flash_base» «cs0_base» report (now («set_rows» .entry)) (now («rom_rows» .entry)) set logical address (now (levels .entry)) (now (count .entry)) (now (image .entry)) .byte) (now (value .entry)) ⌝ }
 {
     let board = c_report::board_in(flash_base, cs0_base, report);
     let at = c_board::address_from(logical, address, *levels);
-    let shown = byte_reads::read_rom_byte_demangled(
-        image,
-        board,
-        set_rows,
-        rom_rows,
-        set,
-        at,
-        *count,
-    );
-    *count = shown.count;
-    if shown.number != 0 {
-        return shown.number as u32;
+    let read = read_byte(image, board, set_rows, rom_rows, set, at, demangled, *count);
+    *count = read.count;
+    if read.number != 0 {
+        return read.number as u32;
     }
-    *value = shown.byte;
+    *value = read.byte;
     0
 }

@@ -10,7 +10,8 @@ use Rattle.types.specs.declared.SdrrRomType.{SdrrRomType}
 use Rattle.types.specs.declared.SdrrCsSet.{SdrrCsSet}
 use Rattle.pins.specs.declared.SdrrPins.{SdrrPins}
 use Rattle.demangle.specs.Bits.{bitAt, takenBit, gather}
-use Rattle.base_zero.specs.BaseZero.{leastOf, lowered, leastPin, loweredBy, baseZero}
+use Rattle.least_pin.specs.LeastPin.{leastOf, leastPin}
+use Rattle.base_zero.specs.BaseZero.{lowered, loweredBy, baseZero}
 use Rattle.rom_rules.specs.Rules.{rulesOf, drives, mangleNumber}
 use Rattle.input_word.specs.Input.{raised, inputWord}
 use Rattle.mangle.specs.PinMap.{withAddress, withX, controlOff, withControl, withControls, mapNumber, wholeMap, mapBy, mapOf, pinMap}

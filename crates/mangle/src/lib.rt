@@ -2,9 +2,9 @@
 pub mod map; // the sixteen pins
 
 use base_zero::control_least;
-use base_zero::least_pin;
 use input_word::input_word;
 use input_word::levels;
+use least_pin::least_pin;
 use pin_words::address_pins;
 use pins::SdrrPins;
 use types::SdrrCsSet;

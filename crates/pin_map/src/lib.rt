@@ -2,7 +2,7 @@
 // address is placing its input word under this map.
 use base_zero::base_zero;
 use base_zero::control_least;
-use base_zero::least_pin;
+use least_pin::least_pin;
 use mangle::PinMap;
 use mangle::map::map_number;
 use pin_words::address_pins;

@@ -6,7 +6,7 @@ ghost use mathlib.Core.List.{map};
 ghost use Prim.Native.Nat.{_+_, _*_, _-_, _^_, _≤_, _<_};
 ghost use lib.Bits.{bitAnd};
 ghost use Rattle.base_zero.specs.BaseZero.{lowered};
-ghost use Rattle.base_zero.specs.Laws.{allFrom};
+ghost use Rattle.least_pin.specs.Laws.{allFrom};
 ghost use Rattle.pin_words.specs.Code.{onPin, stepPin, placed, limit};
 
 // The bits of a word on the address pins; and which of the sixteen pins have one.

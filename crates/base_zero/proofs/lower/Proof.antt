@@ -4,9 +4,6 @@ use Rattle.base_zero.specs.BaseZero.{lowered}
 use Rattle.base_zero.proofs.lower.Statement.{statement}
 use Rattle.base_zero.proofs.lower.Tie as tie
 
-less-requires : tie.Need-less-requires
-less-requires c κs = search needs
-
 returns : tie.Need-returns
 unfolding lowered
 returns c = rw (eq-eqb _ _ (c .if1 .taken))
@@ -16,4 +13,4 @@ unfolding lowered
 returns-2 c = rw (ne-eqb _ _ (c .before .if1 .left)) (c .less .ensures)
 
 pub lower-spec : {M : Type 1} → statement M
-lower-spec = tie.close (tie.spec less-requires returns returns-2)
+lower-spec = tie.close (tie.spec (λ c κs. search needs) returns returns-2)

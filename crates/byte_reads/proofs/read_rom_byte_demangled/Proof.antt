@@ -4,12 +4,6 @@ use Rattle.byte_reads.specs.Laws.Steps.{byte-demangled}
 use Rattle.byte_reads.proofs.read_rom_byte_demangled.Statement.{statement}
 use Rattle.byte_reads.proofs.read_rom_byte_demangled.Tie as tie
 
-read-rom-byte-raw-requires : tie.Need-read-rom-byte-raw-requires
-read-rom-byte-raw-requires c κs = search needs
-
-shown-byte-requires : tie.Need-shown-byte-requires
-shown-byte-requires c κs = search needs
-
 returns : tie.Need-returns
 returns c =
     let raw = c .before .before in
@@ -18,4 +12,4 @@ returns c =
     (raw .read-rom-byte-raw .result) (raw .read-rom-byte-raw .ensures) (c .shown-byte .result) (c .shown-byte .ensures)
 
 pub read-rom-byte-demangled-spec : {M : Type 1} → statement M
-read-rom-byte-demangled-spec = tie.close (tie.spec read-rom-byte-raw-requires shown-byte-requires returns)
+read-rom-byte-demangled-spec = tie.close (tie.spec (λ c κs. search needs) (λ c κs. search needs) returns)

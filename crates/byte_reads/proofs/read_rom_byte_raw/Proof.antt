@@ -9,12 +9,6 @@ use Rattle.byte_reads.specs.Laws.Steps.{byte-raw}
 use Rattle.byte_reads.proofs.read_rom_byte_raw.Statement.{statement}
 use Rattle.byte_reads.proofs.read_rom_byte_raw.Tie as tie
 
-beyond-window-requires : tie.Need-beyond-window-requires
-beyond-window-requires c κs = search needs
-
-no-byte-requires : tie.Need-no-byte-requires
-no-byte-requires c κs = search needs
-
 returns : tie.Need-returns
 returns c =
     let window = c .before .before in
@@ -22,18 +16,6 @@ returns c =
     let l = lentBy (entry .board) (entry .set-rows .now) (entry .rom-rows .now) in
     let law = read-beyond (entry .board .«flash_base») (entry .board .«cs0_base») l (entry .count) (entry .image .now) (byte (entry .set) (entry .address) false) (sym (window .beyond-window .ensures) ∙ c .before .if1 .taken) in
     c .no-byte .ensures ∙ sym (ap byteOf law)
-
-physical-address-requires : tie.Need-physical-address-requires
-physical-address-requires c κs = search needs
-
-base-after-requires : tie.Need-base-after-requires
-base-after-requires c κs = search needs
-
-set-data-requires : tie.Need-set-data-requires
-set-data-requires c κs = search needs
-
-stored-byte-requires : tie.Need-stored-byte-requires
-stored-byte-requires c κs = search needs
 
 returns-2 : tie.Need-returns-2
 returns-2 c =
@@ -50,11 +32,11 @@ pub read-rom-byte-raw-spec : {M : Type 1} → statement M
 read-rom-byte-raw-spec =
     tie.close
     (tie.spec
-    beyond-window-requires
-    no-byte-requires
+    (λ c κs. search needs)
+    (λ c κs. search needs)
     returns
-    physical-address-requires
-    base-after-requires
-    set-data-requires
-    stored-byte-requires
+    (λ c κs. search needs)
+    (λ c κs. search needs)
+    (λ c κs. search needs)
+    (λ c κs. search needs)
     returns-2)

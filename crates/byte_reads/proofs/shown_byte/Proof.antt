@@ -11,12 +11,6 @@ returns c =
     let entry = c .before .before .args in
     sym (shown-refused (entry .pins) (entry .raw) (entry .count) (c .if1 .taken))
 
-demangle-byte-requires : tie.Need-demangle-byte-requires
-demangle-byte-requires c κs = search needs
-
-no-byte-requires : tie.Need-no-byte-requires
-no-byte-requires c κs = search needs
-
 returns-2 : tie.Need-returns-2
 returns-2 c =
     let entry = c .before .before .before .before .before .before .args in
@@ -34,4 +28,4 @@ returns-3 c =
     rw (shown-demangled (entry .pins) (entry .raw) (entry .count) read (ap (λ (b : Demangled). b .number) (sym e) ∙ zero), ← e)
 
 pub shown-byte-spec : {M : Type 1} → statement M
-shown-byte-spec = tie.close (tie.spec returns demangle-byte-requires no-byte-requires returns-2 returns-3)
+shown-byte-spec = tie.close (tie.spec returns (λ c κs. search needs) (λ c κs. search needs) returns-2 returns-3)

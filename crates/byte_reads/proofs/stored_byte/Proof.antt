@@ -7,19 +7,10 @@ use Rattle.byte_reads.specs.Laws.Steps.{stored-unmangled, stored-refused
 use Rattle.byte_reads.proofs.stored_byte.Statement.{statement}
 use Rattle.byte_reads.proofs.stored_byte.Tie as tie
 
-no-byte-requires : tie.Need-no-byte-requires
-no-byte-requires c κs = search needs
-
 returns : tie.Need-returns
 returns c =
     let entry = c .before .before .before .before .args in
     c .no-byte .ensures ∙ sym (stored-unmangled (entry .image .now) (entry .base) (entry .data) (entry .m) (entry .count) (c .before .if1 .taken))
-
-find-requires : tie.Need-find-requires
-find-requires c κs = search needs
-
-no-byte-requires-2 : tie.Need-no-byte-requires-2
-no-byte-requires-2 c κs = search needs
 
 returns-2 : tie.Need-returns-2
 returns-2 c =
@@ -28,9 +19,6 @@ returns-2 c =
     let mangled : entry .m .number ≡ 0 = omega arith in
     c .no-byte2 .ensures
     ∙ sym (stored-refused (entry .image .now) (entry .base) (entry .data) (entry .m) (entry .count) mangled (found .find .result) (found .find .ensures) (c .before .if2 .taken))
-
-no-byte-requires-3 : tie.Need-no-byte-requires-3
-no-byte-requires-3 c κs = search needs
 
 returns-3 : tie.Need-returns-3
 returns-3 c =
@@ -50,9 +38,6 @@ shared-slice-read-byte c =
     let inside = stands-inside (entry .image .now) (entry .base) (entry .data) (entry .m .value) 1 (found .find .result) (found-stands (entry .image .now) (entry .base) (entry .data) (entry .m .value) 1 (found .find .result) (found .find .ensures) there) in
     omega arith
 
-add-count : tie.Need-add-count
-add-count c = search needs
-
 returns-4 : tie.Need-returns-4
 returns-4 c =
     let found = c .before .before .before .before in
@@ -66,13 +51,13 @@ pub stored-byte-spec : {M : Type 1} → statement M
 stored-byte-spec =
     tie.close
     (tie.spec
-    no-byte-requires
+    (λ c κs. search needs)
     returns
-    find-requires
-    no-byte-requires-2
+    (λ c κs. search needs)
+    (λ c κs. search needs)
     returns-2
-    no-byte-requires-3
+    (λ c κs. search needs)
     returns-3
     shared-slice-read-byte
-    add-count
+    (λ c. search needs)
     returns-4)

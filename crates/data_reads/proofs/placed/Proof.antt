@@ -6,23 +6,11 @@ use Rattle.data_reads.specs.Laws.Steps.{placed-beyond, placed-within}
 use Rattle.data_reads.proofs.placed.Statement.{statement}
 use Rattle.data_reads.proofs.placed.Tie as tie
 
-beyond-window-requires : tie.Need-beyond-window-requires
-beyond-window-requires c κs = search needs
-
 returns : tie.Need-returns
 returns c =
     let window = c .before in
     let entry = window .before .before .before .args in
     sym (placed-beyond (entry .board .«flash_base») (entry .board .«cs0_base») (lentBy (entry .board) (entry .set-rows .now) []) (entry .set) (entry .offset) (entry .n) (entry .image .now) (sym (window .beyond-window .ensures) ∙ c .if1 .taken))
-
-base-after-requires : tie.Need-base-after-requires
-base-after-requires c κs = search needs
-
-set-data-requires : tie.Need-set-data-requires
-set-data-requires c κs = search needs
-
-find-requires : tie.Need-find-requires
-find-requires c κs = search needs
 
 returns-2 : tie.Need-returns-2
 returns-2 c =
@@ -37,4 +25,4 @@ returns-2 c =
 
 pub placed-spec : {M : Type 1} → statement M
 placed-spec =
-    tie.close (tie.spec beyond-window-requires returns base-after-requires set-data-requires find-requires returns-2)
+    tie.close (tie.spec (λ c κs. search needs) returns (λ c κs. search needs) (λ c κs. search needs) (λ c κs. search needs) returns-2)

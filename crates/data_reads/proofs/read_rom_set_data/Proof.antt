@@ -12,9 +12,6 @@ use Rattle.data_reads.specs.Laws.Steps.{left-as-was, placed-inside, data
 use Rattle.data_reads.proofs.read_rom_set_data.Statement.{statement}
 use Rattle.data_reads.proofs.read_rom_set_data.Tie as tie
 
-placed-requires : tie.Need-placed-requires
-placed-requires c κs = search needs
-
 returns : tie.Need-returns
 returns c =
     let found = c .before .before in
@@ -23,12 +20,6 @@ returns c =
     let law = data-refused (entry .board .«flash_base») (entry .board .«cs0_base») (lentBy (entry .board) (entry .set-rows .now) []) (entry .set) (entry .offset) (length buffer) (entry .image .now)
     (found .placed .result) (found .placed .ensures) (entry .count) (c .if1 .taken) in
     (sym (ap countedOf law), sym (ap (λ (r : Reply). bufferLeft r buffer) law ∙ left-as-was (found .placed .result .number) (entry .count) buffer (c .if1 .taken)))
-
-sub-if2 : tie.Need-sub-if2
-sub-if2 c = search needs
-
-cast-if2 : tie.Need-cast-if2
-cast-if2 c = search needs
 
 returns-2 : tie.Need-returns-2
 returns-2 c =
@@ -51,30 +42,12 @@ add-copy c =
     (found .placed .result) (found .placed .ensures) there in
     omega (arith, start .good .0)
 
-sub-copy : tie.Need-sub-copy
-sub-copy c = search needs
-
-part-copy-start : tie.Need-part-copy-start
-part-copy-start c = search needs
-
 part-copy-end : tie.Need-part-copy-end
 part-copy-end c =
     let found = c .before .before .before .before in
     let entry = found .before .before .before .before .args in
     placed-inside (entry .board .«flash_base») (entry .board .«cs0_base») (lentBy (entry .board) (entry .set-rows .now) []) (entry .set) (entry .offset) (length (entry .buffer .now)) (entry .image .now)
     (found .placed .result) (found .placed .ensures) (omega arith)
-
-copy-requires : tie.Need-copy-requires
-copy-requires c κs = search needs
-
-cast-count : tie.Need-cast-count
-cast-count c = search needs
-
-add-count : tie.Need-add-count
-add-count c = search needs
-
-same-length : tie.Need-same-length
-same-length c = search needs
 
 returns-3 : tie.Need-returns-3
 returns-3 c =
@@ -94,17 +67,17 @@ pub read-rom-set-data-spec : {M : Type 1} → statement M
 read-rom-set-data-spec =
     tie.close
     (tie.spec
-    placed-requires
+    (λ c κs. search needs)
     returns
-    sub-if2
-    cast-if2
+    (λ c. search needs)
+    (λ c. search needs)
     returns-2
     add-copy
-    sub-copy
-    part-copy-start
+    (λ c. search needs)
+    (λ c. search needs)
     part-copy-end
-    copy-requires
-    cast-count
-    add-count
-    same-length
+    (λ c κs. search needs)
+    (λ c. search needs)
+    (λ c. search needs)
+    (λ c. search needs)
     returns-3)

@@ -5,24 +5,15 @@ use Rattle.governing.specs.Laws.{no-pins, no-sets, by-set-0}
 use Rattle.governing.proofs.governing_set_0.Statement.{statement}
 use Rattle.governing.proofs.governing_set_0.Tie as tie
 
-ungoverned-by-requires : tie.Need-ungoverned-by-requires
-ungoverned-by-requires c κs = search needs
-
 returns : tie.Need-returns
 returns c = c .ungoverned-by .ensures ∙ sym (no-pins _ _ _ _ (c .before .if1 .taken))
 
-ungoverned-by-requires-2 : tie.Need-ungoverned-by-requires-2
-ungoverned-by-requires-2 c κs = search needs
-
 returns-2 : tie.Need-returns-2
 returns-2 c = c .ungoverned-by2 .ensures ∙ sym (no-sets _ _ _ _ (omega arith) (omega arith))
-
-governing-requires : tie.Need-governing-requires
-governing-requires c κs = search needs
 
 returns-3 : tie.Need-returns-3
 returns-3 c = c .governing .ensures ∙ sym (by-set-0 _ _ _ _ (omega arith) (c .before .if2 .left))
 
 pub governing-set-0-spec : {M : Type 1} → statement M
 governing-set-0-spec =
-    tie.close (tie.spec ungoverned-by-requires returns ungoverned-by-requires-2 returns-2 governing-requires returns-3)
+    tie.close (tie.spec (λ c κs. search needs) returns (λ c κs. search needs) returns-2 (λ c κs. search needs) returns-3)

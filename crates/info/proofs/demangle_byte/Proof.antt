@@ -8,9 +8,6 @@ use Rattle.info.proofs.demangle_byte.Tie as tie
 returns : tie.Need-returns
 returns c = sym (no-pins-byte (c .before .before .args .pins) (c .before .before .args .byte) (c .if1 .taken))
 
-demangle-core-requires : tie.Need-demangle-core-requires
-demangle-core-requires c κs = search needs
-
 returns-2 : tie.Need-returns-2
 returns-2 c =
     let entry = c .before .before .before .before .before .args in
@@ -18,4 +15,4 @@ returns-2 c =
     c .demangle-core .ensures ∙ sym (by-data-pins (entry .pins) (entry .byte) zero)
 
 pub demangle-byte-spec : {M : Type 1} → statement M
-demangle-byte-spec = tie.close (tie.spec returns demangle-core-requires returns-2)
+demangle-byte-spec = tie.close (tie.spec returns (λ c κs. search needs) returns-2)

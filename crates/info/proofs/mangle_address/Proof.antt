@@ -4,12 +4,6 @@ use Rattle.info.specs.Laws.Steps.{in-two}
 use Rattle.info.proofs.mangle_address.Statement.{statement}
 use Rattle.info.proofs.mangle_address.Tie as tie
 
-governing-set-0-requires : tie.Need-governing-set-0-requires
-governing-set-0-requires c κs = search needs
-
-mangle-by-requires : tie.Need-mangle-by-requires
-mangle-by-requires c κs = search needs
-
 returns : tie.Need-returns
 returns c =
     let entry = c .before .before .before .before .before .args in
@@ -17,4 +11,4 @@ returns c =
     rw law (c .mangle-by .ensures ∙ rw (c .before .before .governing-set-0 .ensures) refl)
 
 pub mangle-address-spec : {M : Type 1} → statement M
-mangle-address-spec = tie.close (tie.spec governing-set-0-requires mangle-by-requires returns)
+mangle-address-spec = tie.close (tie.spec (λ c κs. search needs) (λ c κs. search needs) returns)

@@ -6,16 +6,10 @@ use Rattle.info.specs.Laws.Steps.{not-governed, governed}
 use Rattle.info.proofs.mangle_by.Statement.{statement}
 use Rattle.info.proofs.mangle_by.Tie as tie
 
-unmangled-by-requires : tie.Need-unmangled-by-requires
-unmangled-by-requires c κs = search needs
-
 returns : tie.Need-returns
 returns c =
     let entry = c .before .before .before .args in
     c .unmangled-by .ensures ∙ sym (not-governed (entry .«set») (entry .pins) (entry .address) (entry .cs-set) (c .before .if1 .taken))
-
-mangle-core-requires : tie.Need-mangle-core-requires
-mangle-core-requires c κs = search needs
 
 returns-2 : tie.Need-returns-2
 returns-2 c =
@@ -25,4 +19,4 @@ returns-2 c =
     core ∙ sym (governed (entry .«set») (entry .pins) (entry .address) (entry .cs-set) zero)
 
 pub mangle-by-spec : {M : Type 1} → statement M
-mangle-by-spec = tie.close (tie.spec unmangled-by-requires returns mangle-core-requires returns-2)
+mangle-by-spec = tie.close (tie.spec (λ c κs. search needs) returns (λ c κs. search needs) returns-2)

@@ -8,24 +8,6 @@ use Rattle.rom_rules.proofs.Types.{in-arm}
 use Rattle.input_word.proofs.drive_words.Statement.{statement}
 use Rattle.input_word.proofs.drive_words.Tie as tie
 
-enum-told : tie.Need-enum-told
-enum-told c = search needs
-
-words-requires : tie.Need-words-requires
-words-requires c κs = search needs
-
-words-requires-2 : tie.Need-words-requires-2
-words-requires-2 c κs = search needs
-
-enum-told-2 : tie.Need-enum-told-2
-enum-told-2 c = search needs
-
-words-requires-3 : tie.Need-words-requires-3
-words-requires-3 c κs = search needs
-
-words-requires-4 : tie.Need-words-requires-4
-words-requires-4 c κs = search needs
-
 returns : tie.Need-returns
 unfolding drives rulesOf romTypeOf
 returns c =
@@ -54,12 +36,12 @@ pub drive-words-spec : {M : Type 1} → statement M
 drive-words-spec =
     tie.close
     (tie.spec
-    enum-told
-    words-requires
-    words-requires-2
-    enum-told-2
-    words-requires-3
-    words-requires-4
+    (λ c. search needs)
+    (λ c κs. search needs)
+    (λ c κs. search needs)
+    (λ c. search needs)
+    (λ c κs. search needs)
+    (λ c κs. search needs)
     returns
     returns-2
     returns-3

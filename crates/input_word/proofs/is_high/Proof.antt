@@ -4,15 +4,6 @@ use Rattle.input_word.proofs.High.{level-at}
 use Rattle.input_word.proofs.is_high.Statement.{statement}
 use Rattle.input_word.proofs.is_high.Tie as tie
 
-enum-told : tie.Need-enum-told
-enum-told c = search needs
-
-enum-told-2 : tie.Need-enum-told-2
-enum-told-2 c = search needs
-
-enum-told-3 : tie.Need-enum-told-3
-enum-told-3 c = search needs
-
 returns : tie.Need-returns
 returns c = sym (level-at (c .before .before .args .level) 2 (c .before .match .keys1))
 
@@ -23,4 +14,4 @@ returns-3 : tie.Need-returns-3
 returns-3 c = sym (level-at (c .before .before .args .level) 1 (c .before .match .keys3))
 
 pub is-high-spec : {M : Type 1} → statement M
-is-high-spec = tie.close (tie.spec enum-told enum-told-2 enum-told-3 returns returns-2 returns-3)
+is-high-spec = tie.close (tie.spec (λ c. search needs) (λ c. search needs) (λ c. search needs) returns returns-2 returns-3)

@@ -1,7 +1,7 @@
 use native.Mathlib.Omega.{arith}
 use borrow.Author.Needs.{needs}
 use Rattle.base_zero.specs.BaseZero.{baseZero, loweredBy}
-use Rattle.base_zero.specs.Laws.{least-from}
+use Rattle.least_pin.specs.Laws.{least-from}
 use Rattle.pin_words.specs.Laws.{pins-lt}
 use Rattle.mangle.specs.Laws.Words.{word-core}
 use Rattle.mangle.proofs.mangle_core.Statement.{statement}

@@ -16,7 +16,8 @@ use Rattle.types.specs.declared.SdrrCsSet.{SdrrCsSet}
 use Rattle.pins.specs.declared.SdrrPins.{SdrrPins}
 use Rattle.demangle.specs.Bits.{none, isBit, bitAt, takenBit, gather}
 use Rattle.demangle.specs.Laws.{taken-lt, bit-gather}
-use Rattle.base_zero.specs.BaseZero.{lowered, leastPin, loweredBy, baseZero}
+use Rattle.least_pin.specs.LeastPin.{leastPin}
+use Rattle.base_zero.specs.BaseZero.{lowered, loweredBy, baseZero}
 use Rattle.pin_words.specs.Code.{onPin, onPins, allHigh, placed}
 use Rattle.pin_words.specs.Laws.{on-lt, all-high}
 use Rattle.rom_rules.specs.Rules.{controlBits, is28C16, several, aboveMask, mangleNumber}

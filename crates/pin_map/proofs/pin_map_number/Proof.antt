@@ -1,6 +1,6 @@
 use borrow.Author.Needs.{needs}
 use Rattle.base_zero.specs.BaseZero.{baseZero, loweredBy}
-use Rattle.base_zero.specs.Laws.{least-from}
+use Rattle.least_pin.specs.Laws.{least-from}
 use Rattle.mangle.specs.Laws.Words.{word-number}
 use Rattle.pin_map.proofs.pin_map_number.Statement.{statement}
 use Rattle.pin_map.proofs.pin_map_number.Tie as tie

@@ -25,98 +25,50 @@ limit-requires c κs = search needs
 add-top : tie.Need-add-top
 add-top c = search needs
 
-array-read-one-pin : tie.Need-array-read-one-pin
-array-read-one-pin c = search needs
-
 one-pin-requires : tie.Need-one-pin-requires
 one-pin-requires c κs = (c .limit .ensures, omega arith, omega arith, omega arith, from (c .before) 0 (omega arith), refl)
-
-array-read-one-pin-2 : tie.Need-array-read-one-pin-2
-array-read-one-pin-2 c = search needs
 
 one-pin-requires-2 : tie.Need-one-pin-requires-2
 one-pin-requires-2 c κs = (c .before .limit .ensures, omega arith, c .one-pin .ensures .1 .0, c .one-pin .ensures .1 .1, from (c .before .before) 1 (omega arith), refl)
 
-array-read-one-pin-3 : tie.Need-array-read-one-pin-3
-array-read-one-pin-3 c = search needs
-
 one-pin-requires-3 : tie.Need-one-pin-requires-3
 one-pin-requires-3 c κs = (c .before .before .limit .ensures, omega arith, c .one-pin2 .ensures .1 .0, c .one-pin2 .ensures .1 .1, from (c .before .before .before) 2 (omega arith), refl)
-
-array-read-one-pin-4 : tie.Need-array-read-one-pin-4
-array-read-one-pin-4 c = search needs
 
 one-pin-requires-4 : tie.Need-one-pin-requires-4
 one-pin-requires-4 c κs = (c .before .before .before .limit .ensures, omega arith, c .one-pin3 .ensures .1 .0, c .one-pin3 .ensures .1 .1, from (c .before .before .before .before) 3 (omega arith), refl)
 
-array-read-one-pin-5 : tie.Need-array-read-one-pin-5
-array-read-one-pin-5 c = search needs
-
 one-pin-requires-5 : tie.Need-one-pin-requires-5
 one-pin-requires-5 c κs = (c .before .before .before .before .limit .ensures, omega arith, c .one-pin4 .ensures .1 .0, c .one-pin4 .ensures .1 .1, from (c .before .before .before .before .before) 4 (omega arith), refl)
-
-array-read-one-pin-6 : tie.Need-array-read-one-pin-6
-array-read-one-pin-6 c = search needs
 
 one-pin-requires-6 : tie.Need-one-pin-requires-6
 one-pin-requires-6 c κs = (c .before .before .before .before .before .limit .ensures, omega arith, c .one-pin5 .ensures .1 .0, c .one-pin5 .ensures .1 .1, from (c .before .before .before .before .before .before) 5 (omega arith), refl)
 
-array-read-one-pin-7 : tie.Need-array-read-one-pin-7
-array-read-one-pin-7 c = search needs
-
 one-pin-requires-7 : tie.Need-one-pin-requires-7
 one-pin-requires-7 c κs = (c .before .before .before .before .before .before .limit .ensures, omega arith, c .one-pin6 .ensures .1 .0, c .one-pin6 .ensures .1 .1, from (c .before .before .before .before .before .before .before) 6 (omega arith), refl)
-
-array-read-one-pin-8 : tie.Need-array-read-one-pin-8
-array-read-one-pin-8 c = search needs
 
 one-pin-requires-8 : tie.Need-one-pin-requires-8
 one-pin-requires-8 c κs = (c .before .before .before .before .before .before .before .limit .ensures, omega arith, c .one-pin7 .ensures .1 .0, c .one-pin7 .ensures .1 .1, from (c .before .before .before .before .before .before .before .before) 7 (omega arith), refl)
 
-array-read-one-pin-9 : tie.Need-array-read-one-pin-9
-array-read-one-pin-9 c = search needs
-
 one-pin-requires-9 : tie.Need-one-pin-requires-9
 one-pin-requires-9 c κs = (c .before .before .before .before .before .before .before .before .limit .ensures, omega arith, c .one-pin8 .ensures .1 .0, c .one-pin8 .ensures .1 .1, from (c .before .before .before .before .before .before .before .before .before) 8 (omega arith), refl)
-
-array-read-one-pin-10 : tie.Need-array-read-one-pin-10
-array-read-one-pin-10 c = search needs
 
 one-pin-requires-10 : tie.Need-one-pin-requires-10
 one-pin-requires-10 c κs = (c .before .before .before .before .before .before .before .before .before .limit .ensures, omega arith, c .one-pin9 .ensures .1 .0, c .one-pin9 .ensures .1 .1, from (c .before .before .before .before .before .before .before .before .before .before) 9 (omega arith), refl)
 
-array-read-one-pin-11 : tie.Need-array-read-one-pin-11
-array-read-one-pin-11 c = search needs
-
 one-pin-requires-11 : tie.Need-one-pin-requires-11
 one-pin-requires-11 c κs = (c .before .before .before .before .before .before .before .before .before .before .limit .ensures, omega arith, c .one-pin10 .ensures .1 .0, c .one-pin10 .ensures .1 .1, from (c .before .before .before .before .before .before .before .before .before .before .before) 10 (omega arith), refl)
-
-array-read-one-pin-12 : tie.Need-array-read-one-pin-12
-array-read-one-pin-12 c = search needs
 
 one-pin-requires-12 : tie.Need-one-pin-requires-12
 one-pin-requires-12 c κs = (c .before .before .before .before .before .before .before .before .before .before .before .limit .ensures, omega arith, c .one-pin11 .ensures .1 .0, c .one-pin11 .ensures .1 .1, from (c .before .before .before .before .before .before .before .before .before .before .before .before) 11 (omega arith), refl)
 
-array-read-one-pin-13 : tie.Need-array-read-one-pin-13
-array-read-one-pin-13 c = search needs
-
 one-pin-requires-13 : tie.Need-one-pin-requires-13
 one-pin-requires-13 c κs = (c .before .before .before .before .before .before .before .before .before .before .before .before .limit .ensures, omega arith, c .one-pin12 .ensures .1 .0, c .one-pin12 .ensures .1 .1, from (c .before .before .before .before .before .before .before .before .before .before .before .before .before) 12 (omega arith), refl)
-
-array-read-one-pin-14 : tie.Need-array-read-one-pin-14
-array-read-one-pin-14 c = search needs
 
 one-pin-requires-14 : tie.Need-one-pin-requires-14
 one-pin-requires-14 c κs = (c .before .before .before .before .before .before .before .before .before .before .before .before .before .limit .ensures, omega arith, c .one-pin13 .ensures .1 .0, c .one-pin13 .ensures .1 .1, from (c .before .before .before .before .before .before .before .before .before .before .before .before .before .before) 13 (omega arith), refl)
 
-array-read-one-pin-15 : tie.Need-array-read-one-pin-15
-array-read-one-pin-15 c = search needs
-
 one-pin-requires-15 : tie.Need-one-pin-requires-15
 one-pin-requires-15 c κs = (c .before .before .before .before .before .before .before .before .before .before .before .before .before .before .limit .ensures, omega arith, c .one-pin14 .ensures .1 .0, c .one-pin14 .ensures .1 .1, from (c .before .before .before .before .before .before .before .before .before .before .before .before .before .before .before) 14 (omega arith), refl)
-
-array-read-one-pin-16 : tie.Need-array-read-one-pin-16
-array-read-one-pin-16 c = search needs
 
 one-pin-requires-16 : tie.Need-one-pin-requires-16
 one-pin-requires-16 c κs = (c .before .before .before .before .before .before .before .before .before .before .before .before .before .before .before .limit .ensures, omega arith, c .one-pin15 .ensures .1 .0, c .one-pin15 .ensures .1 .1, from (c .before .before .before .before .before .before .before .before .before .before .before .before .before .before .before .before) 15 (omega arith), refl)
@@ -167,36 +119,36 @@ address-pins-spec =
     (tie.spec
     limit-requires
     add-top
-    array-read-one-pin
+    (λ c. search needs)
     one-pin-requires
-    array-read-one-pin-2
+    (λ c. search needs)
     one-pin-requires-2
-    array-read-one-pin-3
+    (λ c. search needs)
     one-pin-requires-3
-    array-read-one-pin-4
+    (λ c. search needs)
     one-pin-requires-4
-    array-read-one-pin-5
+    (λ c. search needs)
     one-pin-requires-5
-    array-read-one-pin-6
+    (λ c. search needs)
     one-pin-requires-6
-    array-read-one-pin-7
+    (λ c. search needs)
     one-pin-requires-7
-    array-read-one-pin-8
+    (λ c. search needs)
     one-pin-requires-8
-    array-read-one-pin-9
+    (λ c. search needs)
     one-pin-requires-9
-    array-read-one-pin-10
+    (λ c. search needs)
     one-pin-requires-10
-    array-read-one-pin-11
+    (λ c. search needs)
     one-pin-requires-11
-    array-read-one-pin-12
+    (λ c. search needs)
     one-pin-requires-12
-    array-read-one-pin-13
+    (λ c. search needs)
     one-pin-requires-13
-    array-read-one-pin-14
+    (λ c. search needs)
     one-pin-requires-14
-    array-read-one-pin-15
+    (λ c. search needs)
     one-pin-requires-15
-    array-read-one-pin-16
+    (λ c. search needs)
     one-pin-requires-16
     returns)

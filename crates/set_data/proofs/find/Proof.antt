@@ -8,16 +8,10 @@ use Rattle.set_data.specs.Laws.{found-no-set, found-81, found-ended, fou
 use Rattle.set_data.proofs.find.Statement.{statement}
 use Rattle.set_data.proofs.find.Tie as tie
 
-not-found-requires : tie.Need-not-found-requires
-not-found-requires c κs = search needs
-
 returns : tie.Need-returns
 returns c =
     let entry = c .before .before .before .before .args in
     c .not-found .ensures ∙ sym (found-no-set (entry .image .now) (entry .base) (entry .data) (entry .offset) (entry .n) (c .before .if1 .taken))
-
-not-found-requires-2 : tie.Need-not-found-requires-2
-not-found-requires-2 c κs = search needs
 
 returns-2 : tie.Need-returns-2
 returns-2 c =
@@ -26,30 +20,12 @@ returns-2 c =
     let short : entry .data .size < entry .offset + entry .n = omega arith in
     c .not-found2 .ensures ∙ sym (found-81 (entry .image .now) (entry .base) (entry .data) (entry .offset) (entry .n) set short)
 
-cast-if3 : tie.Need-cast-if3
-cast-if3 c = search needs
-
-not-found-requires-3 : tie.Need-not-found-requires-3
-not-found-requires-3 c κs = search needs
-
 returns-3 : tie.Need-returns-3
 returns-3 c =
     let entry = c .before .before .before .before .before .before .before .before .args in
     let set : entry .data .number ≡ 0 = omega arith in
     let short : entry .data .size < entry .offset + entry .n = omega arith in
     c .not-found3 .ensures ∙ sym (found-81 (entry .image .now) (entry .base) (entry .data) (entry .offset) (entry .n) set short)
-
-cast-address : tie.Need-cast-address
-cast-address c = search needs
-
-add-address : tie.Need-add-address
-add-address c = search needs
-
-can-read-requires : tie.Need-can-read-requires
-can-read-requires c κs = search needs
-
-not-found-requires-4 : tie.Need-not-found-requires-4
-not-found-requires-4 c κs = search needs
 
 returns-4 : tie.Need-returns-4
 returns-4 c =
@@ -76,17 +52,17 @@ pub find-spec : {M : Type 1} → statement M
 find-spec =
     tie.close
     (tie.spec
-    not-found-requires
+    (λ c κs. search needs)
     returns
-    not-found-requires-2
+    (λ c κs. search needs)
     returns-2
-    cast-if3
-    not-found-requires-3
+    (λ c. search needs)
+    (λ c κs. search needs)
     returns-3
-    cast-address
-    add-address
-    can-read-requires
-    not-found-requires-4
+    (λ c. search needs)
+    (λ c. search needs)
+    (λ c κs. search needs)
+    (λ c κs. search needs)
     returns-4
     sub-at
     returns-5)

@@ -5,17 +5,11 @@ use Rattle.set_data.specs.Laws.{size-refused, size-given}
 use Rattle.set_data.proofs.get_rom_set_size.Statement.{statement}
 use Rattle.set_data.proofs.get_rom_set_size.Tie as tie
 
-set-number-requires : tie.Need-set-number-requires
-set-number-requires c κs = search needs
-
 returns : tie.Need-returns
 returns c =
     let entry = c .before .before .before .args in
     let e = c .before .set-number .ensures in
     rw (size-refused (entry .served) (entry .set-rows .now) (entry .set) (rw e at (c .if1 .taken)), e)
-
-set-word-requires : tie.Need-set-word-requires
-set-word-requires c κs = search needs
 
 returns-2 : tie.Need-returns-2
 returns-2 c =
@@ -24,4 +18,4 @@ returns-2 c =
     rw (size-given (entry .served) (entry .set-rows .now) (entry .set) (sym (c .before .before .set-number .ensures) ∙ zero), c .set-word .ensures)
 
 pub get-rom-set-size-spec : {M : Type 1} → statement M
-get-rom-set-size-spec = tie.close (tie.spec set-number-requires returns set-word-requires returns-2)
+get-rom-set-size-spec = tie.close (tie.spec (λ c κs. search needs) returns (λ c κs. search needs) returns-2)

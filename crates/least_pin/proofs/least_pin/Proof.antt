@@ -1,26 +1,14 @@
 use mathlib.Core.Path.{ap, _∙_}
 use borrow.Author.Needs.{needs}
 use borrow.Author.Tests.{eq-eqb, ne-eqb}
-use Rattle.base_zero.specs.BaseZero.{controls, leastOf, leastPin}
-use Rattle.base_zero.specs.Laws.{least-seven}
-use Rattle.base_zero.proofs.least_pin.Statement.{statement}
-use Rattle.base_zero.proofs.least_pin.Tie as tie
-
-least-address-requires : tie.Need-least-address-requires
-least-address-requires c κs = search needs
+use Rattle.least_pin.specs.LeastPin.{controls, leastOf, leastPin}
+use Rattle.least_pin.specs.Laws.{least-seven}
+use Rattle.least_pin.proofs.least_pin.Statement.{statement}
+use Rattle.least_pin.proofs.least_pin.Tie as tie
 
 returns : tie.Need-returns
 unfolding leastPin leastOf
 returns c = simp (ne-eqb _ _ (c .if1 .taken)) (c .before .before .least-address .ensures)
-
-least-of-four-requires : tie.Need-least-of-four-requires
-least-of-four-requires c κs = search needs
-
-least-of-four-requires-2 : tie.Need-least-of-four-requires-2
-least-of-four-requires-2 c κs = search needs
-
-lesser-requires : tie.Need-lesser-requires
-lesser-requires c κs = search needs
 
 returns-2 : tie.Need-returns-2
 unfolding leastPin
@@ -39,9 +27,9 @@ pub least-pin-spec : {M : Type 1} → statement M
 least-pin-spec =
     tie.close
     (tie.spec
-    least-address-requires
+    (λ c κs. search needs)
     returns
-    least-of-four-requires
-    least-of-four-requires-2
-    lesser-requires
+    (λ c κs. search needs)
+    (λ c κs. search needs)
+    (λ c κs. search needs)
     returns-2)

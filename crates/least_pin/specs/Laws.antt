@@ -12,7 +12,7 @@ use lib.Seq.{drop-cons}
 use borrow.Author.Tests.{ltb-true, ltb-false, lt-ltb, le-ltb}
 use Rattle.base.specs.Choice.{pick}
 use Rattle.pins.specs.declared.SdrrPins.{SdrrPins}
-use Rattle.base_zero.specs.BaseZero.{has24, controls, leastOf, leastPin}
+use Rattle.least_pin.specs.LeastPin.{has24, controls, leastOf, leastPin}
 
 unfoldable pub lesser : (a b : ℕ) → ℕ
 lesser a b = pick (ltb a b) a b

@@ -1,7 +1,7 @@
 use borrow.Author.Tests.{lt-ltb, le-ltb}
-use Rattle.base_zero.specs.Laws.{lesser}
-use Rattle.base_zero.proofs.lesser.Statement.{statement}
-use Rattle.base_zero.proofs.lesser.Tie as tie
+use Rattle.least_pin.specs.Laws.{lesser}
+use Rattle.least_pin.proofs.lesser.Statement.{statement}
+use Rattle.least_pin.proofs.lesser.Tie as tie
 
 returns : tie.Need-returns
 unfolding lesser

@@ -1,7 +1,7 @@
 use borrow.Author.Needs.{needs}
-use Rattle.base_zero.specs.Laws.{least-sixteen}
-use Rattle.base_zero.proofs.least_address.Statement.{statement}
-use Rattle.base_zero.proofs.least_address.Tie as tie
+use Rattle.least_pin.specs.Laws.{least-sixteen}
+use Rattle.least_pin.proofs.least_address.Statement.{statement}
+use Rattle.least_pin.proofs.least_address.Tie as tie
 
 returns : tie.Need-returns
 returns c =

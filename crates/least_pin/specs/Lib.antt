@@ -1,0 +1,2 @@
+pub mod LeastPin
+pub mod Laws

@@ -12,7 +12,7 @@ either-requires : tie.Need-either-requires
 either-requires c κs = search needs
 
 returns : tie.Need-returns
-returns c = cc
+returns c = rw (c .either .ensures, c .before .rom-word .ensures, c .before .before .has-rom-row .ensures)
 
 pub is-bad-rom-row-spec : {M : Type 1} → statement M
 is-bad-rom-row-spec =

@@ -9,7 +9,7 @@ rom-type-of-requires : tie.Need-rom-type-of-requires
 rom-type-of-requires c κs = search needs
 
 returns : tie.Need-returns
-returns c = cc
+returns c = rw (c .rom-type-of .ensures, c .before .rom-word .ensures)
 
 pub rom-type-spec : {M : Type 1} → statement M
 rom-type-spec = tie.close (tie.spec rom-word-requires rom-type-of-requires returns)

@@ -1,6 +1,6 @@
 use borrow.Author.Needs.{needs}
-use Rattle.rows.proofs.is_bad_rom_row.Statement.{statement}
-use Rattle.rows.proofs.is_bad_rom_row.Tie as tie
+use Rattle.row_types.proofs.is_bad_rom_row.Statement.{statement}
+use Rattle.row_types.proofs.is_bad_rom_row.Tie as tie
 
 has-rom-row-requires : tie.Need-has-rom-row-requires
 has-rom-row-requires c κs = search needs

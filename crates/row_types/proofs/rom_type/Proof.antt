@@ -1,6 +1,6 @@
 use borrow.Author.Needs.{needs}
-use Rattle.rows.proofs.rom_type.Statement.{statement}
-use Rattle.rows.proofs.rom_type.Tie as tie
+use Rattle.row_types.proofs.rom_type.Statement.{statement}
+use Rattle.row_types.proofs.rom_type.Tie as tie
 
 rom-word-requires : tie.Need-rom-word-requires
 rom-word-requires c κs = search needs

@@ -17,4 +17,4 @@ pub pins-at-spec : {M : Type 1} → stated.statement M
 unfolding code.routine
 pins-at-spec 𝓤 H 𝓜 𝓖 𝓡 =
     one-param-proved a-number S.the-type S′.the-laws (λ _ image base a. answer (pinsP base (a .0)) image) #callee 𝓤 H 𝓜 𝓖 𝓡
-    code.env #here (code.unfolded 𝓤 H 𝓜 𝓡) callee-def.routine code.calls-pins·read-pins (callee-thm.met 𝓤 H 𝓜 𝓖 𝓡)
+    code.env #here (code.unfolded 𝓤 H 𝓜 𝓡) callee-def.routine code.calls-pins-record·read-pins (callee-thm.met 𝓤 H 𝓜 𝓖 𝓡)

@@ -192,7 +192,7 @@ fn take_other(request: Request, at: usize, word: &[u8]) -> Request {
     if request.waiting != 255 {
         return take_number(request, at, word);
     }
-    if le::starts_with(word, b"--") {
+    if magic::starts_with(word, b"--") {
         return stop(request, 101, at);
     }
     take_word(request, at, word)

@@ -17,7 +17,7 @@ fn wide(b: u8) -> u32 {
 }
 
 fn port(p: SdrrMcuPort) -> u32 {
-    wide(types::port_number(p))
+    wide(type_numbers::port_number(p))
 }
 
 // The version's four numbers, the line, the storage twice, the frequency.
@@ -25,13 +25,13 @@ pub(crate) fn firmware(f: SdrrInfoFields) -> [u32; 8] {
     let v = f.version;
     let l = f.stm_line;
     let s = f.stm_storage;
-    let k = wide(types::storage_number(s));
+    let k = wide(type_numbers::storage_number(s));
     [
         v.major as u32,
         v.minor as u32,
         v.patch as u32,
         v.build as u32,
-        wide(types::line_number(l)),
+        wide(type_numbers::line_number(l)),
         k,
         k,
         f.freq as u32,

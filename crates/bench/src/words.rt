@@ -8,7 +8,7 @@ pub(crate) struct Number {
 }
 
 fn is_word(word: &[u8], m: &[u8]) -> bool {
-    base::both(word.len() == m.len(), le::starts_with(word, m))
+    base::both(word.len() == m.len(), magic::starts_with(word, m))
 }
 
 // Which entry of a table the word is: 0 for the first; 255 where it is none. Entries stand between bars.
@@ -87,7 +87,7 @@ fn digits(word: &[u8], base: u8) -> Number {
 // Decimal, or hexadecimal after 0x.
 pub(crate) fn to_number(word: &[u8]) -> Number {
     if 2 < word.len() {
-        if le::starts_with(word, b"0x") {
+        if magic::starts_with(word, b"0x") {
             return digits(&word[2..], 16);
         }
     }

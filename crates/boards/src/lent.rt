@@ -7,7 +7,7 @@ use pins::PinsItem;
 
 // The pins item: the pins of a record of 88 bytes, with a number of its own.
 fn pins(bytes: &[u8], number: u8) -> PinsItem {
-    let item = pins::parse_pins(bytes);
+    let item = pins_record::parse_pins(bytes);
     let pins = item.pins;
     PinsItem { number, pins }
 }

@@ -57,7 +57,7 @@ fn sixteen(words: &mut [u32], at: usize, a: [u8; 16]) -> usize {
 }
 
 fn port(words: &mut [u32], at: usize, p: SdrrMcuPort) -> usize {
-    byte(words, at, types::port_number(p))
+    byte(words, at, type_numbers::port_number(p))
 }
 
 fn pio_default(p: FirePioDefault) -> u32 {
@@ -97,9 +97,9 @@ fn fields(words: &mut [u32], from: usize, f: SdrrInfoFields) -> usize {
     let commit = f.commit;
     let b = eight(words, a, commit);
     let l = f.stm_line;
-    let c = byte(words, b, types::line_number(l));
+    let c = byte(words, b, type_numbers::line_number(l));
     let s = f.stm_storage;
-    let d = byte(words, c, types::storage_number(s));
+    let d = byte(words, c, type_numbers::storage_number(s));
     let e = half(words, d, f.freq);
     let g = flags(words, e, f);
     let boot = f.boot_config;

@@ -4,8 +4,9 @@ use Prim.Native.Nat.{ℕ}
 use mathlib.Core.Path.{_≡_, refl}
 use Rattle.window.specs.Window.{baseAfter}
 use Rattle.types.specs.declared.McuLine.{McuLine}
-use Rattle.types.specs.Types.{lineNumber, isRp2350}
-use Rattle.types.specs.Laws.{port-again}
+use Rattle.types.specs.Types.{isRp2350}
+use Rattle.type_numbers.specs.TypeNumbers.{lineNumber}
+use Rattle.type_numbers.specs.Laws.{port-again}
 use Rattle.pins.specs.declared.PinsItem.{PinsItem}
 use Rattle.fw_parser.specs.declared.SdrrInfo.{SdrrInfo}
 use Rattle.c_report.specs.Report.{lineIn, headerOut, setsOut, pinsOut, pinsIn, reportOut, boardIn}

@@ -4,7 +4,8 @@ use mathlib.Core.Bool.{Bool, true, false}
 use lib.Dec.{eqb}
 use Rattle.base.specs.Choice.{pick}
 use Rattle.types.specs.declared.McuLine.{McuLine}
-use Rattle.types.specs.Types.{lineNumber, storageNumber, portNumber, portOf}
+use Rattle.types.specs.Types.{portOf}
+use Rattle.type_numbers.specs.TypeNumbers.{lineNumber, storageNumber, portNumber}
 use Rattle.text.specs.declared.Text.{Text}
 use Rattle.header.specs.declared.SdrrInfoFields.{SdrrInfoFields}
 use Rattle.extra_info.specs.declared.FirePioDefault.{FirePioDefault}

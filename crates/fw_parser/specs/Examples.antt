@@ -7,7 +7,7 @@ use mathlib.Core.Bool.{Bool, true, false}
 use mathlib.Core.List.{List, [], _∷_, _++_}
 use lib.ListN.{take, set, replicate}
 use Rattle.window.specs.Window.{canRead, pastWindow}
-use Rattle.le.specs.Le.{startsWith}
+use Rattle.magic.specs.Magic.{startsWith}
 use Rattle.prog.specs.Prog.{run, trace, endOf, answer, reach, tried, triedShown, readsOf, andThen, triedReads}
 use Rattle.utf8.specs.Utf8.{classOf, lowAfter, highAfter, lacking, isUtf8}
 use Rattle.types.specs.declared.McuLine.{McuLine}

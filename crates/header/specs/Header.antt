@@ -5,7 +5,9 @@ use mathlib.Core.List.{List, [], _∷_}
 use lib.Dec.{ltb}
 use lib.ListN.{length}
 use Rattle.base.specs.Choice.{pick}
-use Rattle.le.specs.Le.{u8At, u16At, u32At, fourAt, eightAt, flagAt, startsWith}
+use Rattle.le.specs.Le.{u8At, u16At, u32At, flagAt}
+use Rattle.magic.specs.Magic.{startsWith}
+use Rattle.runs.specs.Runs.{fourAt, eightAt}
 use Rattle.types.specs.declared.McuLine.{McuLine}
 use Rattle.types.specs.declared.McuStorage.{McuStorage}
 use Rattle.types.specs.Types.{lineOf, isRp2350, storageOf}

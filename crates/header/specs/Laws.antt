@@ -9,7 +9,8 @@ use lib.Dec.{ltb}
 use lib.ListN.{length, take}
 use borrow.Author.Tests.{lt-ltb, le-ltb, eq-eqb, ne-eqb}
 use Rattle.window.specs.Window.{canRead, onFrom}
-use Rattle.le.specs.Le.{u16At, u32At, startsWith}
+use Rattle.le.specs.Le.{u16At, u32At}
+use Rattle.magic.specs.Magic.{startsWith}
 use Rattle.prog.specs.Prog.{run}
 use Rattle.prog.specs.Laws.Honest.{Honest, honesty}
 use Rattle.prog.specs.Laws.Record.{front-byte, front-short, front-starts, record-ended, record-onward}

@@ -1,8 +1,8 @@
 -- Document 01: numbers are little-endian, offsets are bytes. What stands at an offset of a list of bytes; a byte past the end counts as 0,
 -- so that each of these is total. The records' definitions test the length first.
 use Prim.Native.Nat.{ℕ, _+_, _*_}
-use mathlib.Core.Bool.{Bool, true, false, not, _&&_}
-use mathlib.Core.List.{List, [], _∷_, _++_}
+use mathlib.Core.Bool.{Bool, not}
+use mathlib.Core.List.{List}
 use lib.Dec.{eqb}
 use lib.ListN.{getD}
 
@@ -15,23 +15,6 @@ u16At s at = u8At s at + u8At s (at + 1) * 256
 abbrev pub u32At : List ℕ → ℕ → ℕ
 u32At s at = u8At s at + u8At s (at + 1) * 256 + u8At s (at + 2) * 65536 + u8At s (at + 3) * 16777216
 
--- four, eight and sixteen bytes
-abbrev pub fourAt : List ℕ → ℕ → List ℕ
-fourAt s at = u8At s at ∷ u8At s (at + 1) ∷ u8At s (at + 2) ∷ u8At s (at + 3) ∷ []
-
-abbrev pub eightAt : List ℕ → ℕ → List ℕ
-eightAt s at =
-    u8At s at ∷ u8At s (at + 1) ∷ u8At s (at + 2) ∷ u8At s (at + 3) ∷ u8At s (at + 4) ∷ u8At s (at + 5) ∷ u8At s (at + 6) ∷ u8At s (at + 7) ∷ []
-
-abbrev pub sixteenAt : List ℕ → ℕ → List ℕ
-sixteenAt s at = eightAt s at ++ eightAt s (at + 8)
-
 -- a flag is true if nonzero
 abbrev pub flagAt : List ℕ → ℕ → Bool
 flagAt s at = not (eqb (u8At s at) 0)
-
--- magic: s starts with the bytes m
-unfoldable pub startsWith : List ℕ → List ℕ → Bool
-startsWith s [] = true
-startsWith [] (b ∷ m) = false
-startsWith (a ∷ s) (b ∷ m) = eqb a b && startsWith s m

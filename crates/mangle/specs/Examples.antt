@@ -3,7 +3,8 @@ use Prim.Native.Nat.{ℕ, _+_}
 use mathlib.Core.Path.{_≡_, refl}
 use mathlib.Core.List.{List, [], _∷_, _++_, map}
 use lib.ListN.{replicate}
-use Rattle.types.specs.Types.{isHigh, romTypeNumber}
+use Rattle.types.specs.Types.{isHigh}
+use Rattle.type_numbers.specs.TypeNumbers.{romTypeNumber}
 use Rattle.types.specs.declared.Level.{Level}
 use Rattle.types.specs.declared.SdrrMcuPort.{SdrrMcuPort}
 use Rattle.types.specs.declared.SdrrRomType.{SdrrRomType}

@@ -8,7 +8,8 @@ use mathlib.Core.List.{List}
 use lib.Dec.{ltb, eqb}
 use lib.ListN.{length, take}
 use borrow.Author.Tests.{lt-ltb, le-ltb, eq-eqb, ne-eqb}
-use Rattle.le.specs.Le.{u8At, u32At, startsWith}
+use Rattle.le.specs.Le.{u8At, u32At}
+use Rattle.magic.specs.Magic.{startsWith}
 use Rattle.prog.specs.Laws.Honest.{Honest, honesty}
 use Rattle.prog.specs.Laws.Record.{front-byte, front-short, front-starts}
 use Rattle.metadata.specs.declared.MetadataAnswer.{MetadataAnswer}

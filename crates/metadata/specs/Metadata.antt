@@ -5,7 +5,8 @@ use mathlib.Core.List.{List, [], _∷_}
 use lib.Dec.{ltb, eqb}
 use lib.ListN.{length}
 use Rattle.base.specs.Choice.{pick}
-use Rattle.le.specs.Le.{u8At, u32At, startsWith}
+use Rattle.le.specs.Le.{u8At, u32At}
+use Rattle.magic.specs.Magic.{startsWith}
 use Rattle.prog.specs.Prog.{Prog, recordP}
 use Rattle.metadata.specs.declared.MetadataAnswer.{MetadataAnswer}
 

@@ -35,7 +35,7 @@ pub fn parse_metadata(data: &[u8]) -> MetadataAnswer
     if data.len() < METADATA_SIZE {
         return refuse(2);
     }
-    if !le::starts_with(data, b"ONEROM_METADATA\0") {
+    if !magic::starts_with(data, b"ONEROM_METADATA\0") {
         return refuse(30);
     }
     if le::u32_at(data, 16) != 1 {

@@ -5,7 +5,8 @@ use mathlib.Core.List.{List, [], _∷_, _++_}
 use lib.Dec.{ltb, eqb}
 use lib.ListN.{length}
 use Rattle.base.specs.Choice.{pick}
-use Rattle.le.specs.Le.{u8At, eightAt, sixteenAt}
+use Rattle.le.specs.Le.{u8At}
+use Rattle.runs.specs.Runs.{eightAt, sixteenAt}
 use Rattle.types.specs.declared.SdrrMcuPort.{SdrrMcuPort}
 use Rattle.types.specs.Types.{portOf}
 use Rattle.prog.specs.Prog.{Prog, recordP}

@@ -78,7 +78,7 @@ fn metadata_at<'a>(w: Window<'a>, header: SdrrInfoHeader) -> SetsSource
 fn pins_at<'a>(w: Window<'a>, ptr: u32) -> PinsItem
     ensures { λ r. ⌜ r ≡ run (pinsP (w .entry .base) ptr) (now (w .entry .image)) ⌝ }
 {
-    pins::read_pins(w.image, w.base, ptr)
+    pins_record::read_pins(w.image, w.base, ptr)
 }
 
 pub fn read_records(image: &[u8], base: u32, header: SdrrInfoHeader) -> Records

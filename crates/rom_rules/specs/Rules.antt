@@ -4,7 +4,7 @@ use mathlib.Core.Bool.{Bool, true, false, not}
 use mathlib.Core.List.{List, [], _∷_}
 use lib.Dec.{ltb, leb, eqb}
 use Rattle.base.specs.Choice.{pick}
-use Rattle.types.specs.Types.{romTypeNumber}
+use Rattle.type_numbers.specs.TypeNumbers.{romTypeNumber}
 use Rattle.types.specs.declared.SdrrRomType.{SdrrRomType}
 use Rattle.demangle.specs.Bits.{none}
 use Rattle.rom_rules.specs.declared.TypeRules.{TypeRules}

@@ -1,10 +1,8 @@
 // The words of rows as lent, by name: a caller writes no number for a place or a width.
-use types::SdrrRomType;
 ghost use mathlib.Core.Path.{_≡_};
 ghost use Prim.Native.Nat.{_+_, _*_};
 ghost use lib.ListN.{getD};
-ghost use Rattle.types.specs.Types.{romTypeOf};
-ghost use Rattle.rows.specs.LentRows.{hasSetRow, hasRomRow, setPlace, romPlace, setWord, romWord, typeWord, badRomRow};
+ghost use Rattle.rows.specs.LentRows.{hasSetRow, setPlace, romPlace, setWord, romWord};
 
 // How many words a set row has.
 pub const SET_WORDS: usize = 8;
@@ -90,12 +88,6 @@ pub fn set_word(set_rows: &[u32], set: u32, word: SetWord) -> u32
     )
 }
 
-fn has_rom_row(rom_rows: &[u32], row: u32) -> bool
-    ensures { λ r. ⌜ r ≡ hasRomRow (now («rom_rows» .entry)) row ⌝ }
-{
-    ROM_WORDS * (row as usize) + ROM_WORDS <= rom_rows.len()
-}
-
 pub fn rom_word(rom_rows: &[u32], row: u32, word: RomWord) -> u32
     ensures { λ r. ⌜ r ≡ romWord (now («rom_rows» .entry)) row word ⌝ }
 {
@@ -103,19 +95,4 @@ pub fn rom_word(rom_rows: &[u32], row: u32, word: RomWord) -> u32
         rom_rows,
         ROM_WORDS * (row as usize) + (rom_place(word) as usize),
     )
-}
-
-pub fn is_bad_rom_row(rom_rows: &[u32], row: u32) -> bool
-    ensures { λ r. ⌜ r ≡ badRomRow (now («rom_rows» .entry)) row ⌝ }
-{
-    base::either(
-        !has_rom_row(rom_rows, row),
-        33 < rom_word(rom_rows, row, RomWord::Type),
-    )
-}
-
-pub fn rom_type(rom_rows: &[u32], row: u32) -> SdrrRomType
-    ensures { λ r. ⌜ r ≡ romTypeOf (typeWord (now («rom_rows» .entry)) row) ⌝ }
-{
-    types::rom_type_of(rom_word(rom_rows, row, RomWord::Type))
 }

@@ -5,7 +5,8 @@ use mathlib.Core.List.{List, [], _∷_}
 use lib.Dec.{ltb, leb, eqb}
 use lib.ListN.{length}
 use Rattle.base.specs.Choice.{pick}
-use Rattle.le.specs.Le.{u8At, u16At, u32At, flagAt, startsWith}
+use Rattle.le.specs.Le.{u8At, u16At, u32At, flagAt}
+use Rattle.magic.specs.Magic.{startsWith}
 use Rattle.runtime_info.specs.declared.SdrrRuntimeInfoHeader.{SdrrRuntimeInfoHeader}
 use Rattle.runtime_info.specs.declared.RuntimeHeader.{RuntimeHeader}
 use Rattle.runtime_info.specs.declared.GroupV060.{GroupV060}

@@ -98,7 +98,7 @@ pub fn parse_and_validate_runtime_info(data: &[u8], ram_base: u32) -> RuntimeHea
     if data.len() < 20 {
         return RuntimeHeader::Refused(2);
     }
-    if !le::starts_with(data, b"sdrr") {
+    if !magic::starts_with(data, b"sdrr") {
         return RuntimeHeader::Refused(60);
     }
     if le::u8_at(data, 4) < 20 {

@@ -8,7 +8,6 @@ use mathlib.Core.List.{List, []}
 use lib.Dec.{eqb}
 use lib.ListN.{length, take, drop, drop-of-length-le}
 use Rattle.window.specs.Window.{onFrom}
-use Rattle.window.specs.Laws.{onward}
 use Rattle.le.specs.Le.{u8At, u32At}
 use Rattle.set_header.specs.SetHeader.{infoPointer, extraByte, pointed, strideOf}
 

@@ -4,7 +4,7 @@ use mathlib.Core.Path.{_≡_, refl}
 use mathlib.Core.List.{List, [], _∷_}
 use lib.ListN.{replicate}
 use Rattle.window.specs.Window.{canRead, pastWindow}
-use Rattle.le.specs.Le.{startsWith}
+use Rattle.magic.specs.Magic.{startsWith}
 use Rattle.runtime_info.specs.Runtime.{headOf, runtimeHeader, reaches, group060Of, group062Of, group063Of, group067Of, runtimeOf}
 use Rattle.runtime_info.specs.Words.{headWords, words060, words062, words063, words067, runtimeWords, numberOf, wordsAfter}
 use Rattle.prog.specs.Prog.{run, answer as readAnswer}

@@ -4,7 +4,7 @@ ghost use Prim.Native.Nat.{_+_, _≤_};
 ghost use lib.ListN.{length, take, drop};
 ghost use Rattle.window.specs.Window.{canRead};
 ghost use Rattle.prog.specs.Prog.{run};
-ghost use Rattle.text.specs.Text.{refusedText, bytesOf, partOf, beforeNul, judged, textP};
+ghost use Rattle.text.specs.Text.{refusedText, partOf, beforeNul, judged, textP};
 
 // A string is read in chunks of 64 bytes, at most 1,024.
 const CHUNK: usize = 64;
@@ -91,11 +91,4 @@ pub fn read_string_at_ptr(image: &[u8], base: u32, ptr: u32) -> Text
         n += CHUNK;
     }
     refuse(20)
-}
-
-// The string at a pointer as its part of the image; an empty part where it is refused.
-pub fn read_string(image: &[u8], base: u32, ptr: u32) -> &[u8]
-    ensures { λ r. ⌜ now r ≡ bytesOf (now (image .entry)) (run (textP base ptr) (now (image .entry))) ⌝ }
-{
-    string_part(image, read_string_at_ptr(image, base, ptr))
 }

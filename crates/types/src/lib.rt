@@ -1,6 +1,6 @@
-// The enums of types.rs, in the order of their numbers.
+// The enums of types.rs, in the order of their numbers, and the case of a number.
 ghost use mathlib.Core.Path.{_≡_};
-ghost use Rattle.types.specs.Types.{lineNumber, lineOf, storageNumber, storageOf, portNumber, portOf, romTypeNumber, romTypeOf};
+ghost use Rattle.types.specs.Types.{lineOf, storageOf, portOf, romTypeOf};
 
 // The microcontroller line: an STM32F4, or the Rp2350.
 pub enum McuLine {
@@ -23,19 +23,6 @@ pub fn line_of(number: u16) -> McuLine
         4 => McuLine::F401BC,
         5 => McuLine::Rp2350,
         _ => McuLine::F401DE,
-    }
-}
-
-pub fn line_number(line: McuLine) -> u8
-    ensures { λ r. ⌜ r ≡ lineNumber line ⌝ }
-{
-    match line {
-        McuLine::F401DE => 0,
-        McuLine::F405 => 1,
-        McuLine::F411 => 2,
-        McuLine::F446 => 3,
-        McuLine::F401BC => 4,
-        McuLine::Rp2350 => 5,
     }
 }
 
@@ -67,21 +54,6 @@ pub fn storage_of(number: u16) -> McuStorage
     }
 }
 
-pub fn storage_number(storage: McuStorage) -> u8
-    ensures { λ r. ⌜ r ≡ storageNumber storage ⌝ }
-{
-    match storage {
-        McuStorage::Storage8 => 0,
-        McuStorage::StorageB => 1,
-        McuStorage::StorageC => 2,
-        McuStorage::StorageD => 3,
-        McuStorage::StorageE => 4,
-        McuStorage::StorageF => 5,
-        McuStorage::StorageG => 6,
-        McuStorage::Storage2MB => 7,
-    }
-}
-
 // The GPIO port that some pins are on.
 pub enum SdrrMcuPort {
     None,
@@ -103,19 +75,6 @@ pub fn port_of(number: u8) -> SdrrMcuPort
         4 => SdrrMcuPort::PortD,
         5 => SdrrMcuPort::Port0,
         _ => SdrrMcuPort::None,
-    }
-}
-
-pub fn port_number(port: SdrrMcuPort) -> u8
-    ensures { λ r. ⌜ r ≡ portNumber port ⌝ }
-{
-    match port {
-        SdrrMcuPort::None => 0,
-        SdrrMcuPort::PortA => 1,
-        SdrrMcuPort::PortB => 2,
-        SdrrMcuPort::PortC => 3,
-        SdrrMcuPort::PortD => 4,
-        SdrrMcuPort::Port0 => 5,
     }
 }
 
@@ -196,47 +155,6 @@ pub fn rom_type_of(number: u32) -> SdrrRomType
         32 => SdrrRomType::Rom23C1001,
         33 => SdrrRomType::Rom27C200,
         _ => SdrrRomType::Rom2316,
-    }
-}
-
-pub fn rom_type_number(rom_type: SdrrRomType) -> u8
-    ensures { λ r. ⌜ r ≡ romTypeNumber «rom_type» ⌝ }
-{
-    match rom_type {
-        SdrrRomType::Rom2316 => 0,
-        SdrrRomType::Rom2332 => 1,
-        SdrrRomType::Rom2364 => 2,
-        SdrrRomType::Rom23128 => 3,
-        SdrrRomType::Rom23256 => 4,
-        SdrrRomType::Rom23512 => 5,
-        SdrrRomType::Rom2704 => 6,
-        SdrrRomType::Rom2708 => 7,
-        SdrrRomType::Rom2716 => 8,
-        SdrrRomType::Rom2732 => 9,
-        SdrrRomType::Rom2764 => 10,
-        SdrrRomType::Rom27128 => 11,
-        SdrrRomType::Rom27256 => 12,
-        SdrrRomType::Rom27512 => 13,
-        SdrrRomType::Rom231024 => 14,
-        SdrrRomType::Rom27C010 => 15,
-        SdrrRomType::Rom27C020 => 16,
-        SdrrRomType::Rom27C040 => 17,
-        SdrrRomType::Rom27C080 => 18,
-        SdrrRomType::Rom27C400 => 19,
-        SdrrRomType::Ram6116 => 20,
-        SdrrRomType::Rom27C301 => 21,
-        SdrrRomType::SystemPlugin => 22,
-        SdrrRomType::UserPlugin => 23,
-        SdrrRomType::PioPlugin => 24,
-        SdrrRomType::RomSst39sf040 => 25,
-        SdrrRomType::Rom28C16 => 26,
-        SdrrRomType::Rom28C64 => 27,
-        SdrrRomType::Rom28C256 => 28,
-        SdrrRomType::Rom28C512 => 29,
-        SdrrRomType::Rom23QL512 => 30,
-        SdrrRomType::Rom23QL384 => 31,
-        SdrrRomType::Rom23C1001 => 32,
-        SdrrRomType::Rom27C200 => 33,
     }
 }
 

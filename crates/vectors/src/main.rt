@@ -55,9 +55,9 @@ fn run_record(kind: u8, line: &[u8], image: &[u8]) {
     match kind {
         b's' => show::text(text::read_string_at_ptr(image, base, at)),
         b'S' => run_string(image, base, at),
-        b'h' => show::header(header::retrieve_header(image, base, at)),
+        b'h' => show::header(header_record::retrieve_header(image, base, at)),
         b'm' => show::metadata(metadata::read_one_rom_metadata_header_info(image, base, at)),
-        b'p' => show::pins(pins::read_pins(image, base, at)),
+        b'p' => show::pins(pins_record::read_pins(image, base, at)),
         _ => show::first(255),
     }
 }

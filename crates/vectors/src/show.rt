@@ -69,7 +69,7 @@ pub(crate) fn metadata(m: MetadataAnswer) {
 }
 
 fn port(p: SdrrMcuPort) {
-    byte(types::port_number(p));
+    byte(type_numbers::port_number(p));
 }
 
 fn pio_default(p: FirePioDefault) {
@@ -132,9 +132,9 @@ fn fields(f: SdrrInfoFields) {
     let commit = f.commit;
     eight(commit);
     let l = f.stm_line;
-    byte(types::line_number(l));
+    byte(type_numbers::line_number(l));
     let s = f.stm_storage;
-    byte(types::storage_number(s));
+    byte(type_numbers::storage_number(s));
     next(f.freq as u32);
     flags(f);
     let boot = f.boot_config;

@@ -10,9 +10,9 @@ use mathlib.Core.Bool.{true, false, _||_, and-false}
 use mathlib.Core.List.{List, []}
 use lib.Dec.{leb, ltb}
 use lib.ListN.{length, getD, take, drop, length-take, length-drop, drop-of-length-le}
-use lib.Seq.{take-all, getD-take, getD-drop}
+use lib.Seq.{getD-take, getD-drop}
 use borrow.Author.Tests.{le-leb, lt-leb, leb-true, leb-false, le-ltb, lt-ltb, ltb-true, ltb-false}
-use Rattle.base.specs.Laws.{cases, clash, both-false}
+use Rattle.base.specs.Laws.{cases, clash, both-false, onward}
 use Rattle.window.specs.Window.{canRead, onFrom, pastWindow, beyondWindow, pointerNumber}
 
 -- ---- when a read succeeds (01, "Window")
@@ -73,10 +73,6 @@ module _ (x : List ℕ) (base a n : ℕ) where
 -- a part `&s[o..o + n]`, as the code has it
 pub part : (o n : ℕ) (x : List ℕ) → take (o + n - o) (drop o x) ≡ take n (drop o x)
 part o n x = rw add-sub-cancel-left
-
--- a part `&s[o..]`, as the code has it
-pub onward : (o : ℕ) (x : List ℕ) → take (length x - o) (drop o x) ≡ drop o x
-onward o x = take-all (length x - o) (drop o x) (simp length-drop (omega arith))
 
 -- a byte of a part
 pub part-at : (o n : ℕ) (x : List ℕ) (i : ℕ) → i < n → getD (take n (drop o x)) i 0 ≡ getD x (o + i) 0

@@ -34,7 +34,9 @@ join32-requires c κs = search needs
 returns-2 : tie.Need-returns-2
 returns-2 c =
     let entry = c .before .before .before .before .before .before .before .before .args in
-    cc (u32-onward (entry .s .now) (entry .at))
+    rw
+    (c .join32 .ensures, c .before .u8-at4 .ensures, c .before .before .u8-at3 .ensures, c .before .before .before .u8-at2 .ensures, c .before .before .before .before .u8-at .ensures)
+    (u32-onward (entry .s .now) (entry .at))
 
 pub u32-at-spec : {M : Type 1} → statement M
 u32-at-spec =

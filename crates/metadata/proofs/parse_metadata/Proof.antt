@@ -5,7 +5,9 @@ use mathlib.Core.Bool.{true, _&&_}
 use lib.Dec.{ltb, eqb}
 use borrow.Author.Needs.{needs}
 use borrow.Author.Tests.{not-true, not-false}
-use Rattle.le.specs.Le.{u8At, u32At, startsWith}
+use Rattle.le.specs.Le.{u8At, u32At}
+use Rattle.magic.specs.Magic.{startsWith}
+use Rattle.metadata.specs.declared.MetadataAnswer.{MetadataAnswer}
 use Rattle.metadata.specs.Metadata.{metadataMagic}
 use Rattle.metadata.specs.Laws.{metadata-short, metadata-no-magic, metadata-version, metadata-no-sets, metadata-present}
 use Rattle.metadata.proofs.parse_metadata.Statement.{statement}
@@ -73,8 +75,9 @@ returns-4 c =
 returns-5 : tie.Need-returns-5
 returns-5 c =
     let d = c .before .before .before .before in
-    let e = metadata-present _ (omega arith) (magic-there (d .before .before)) (version-there d) (sym (sets-missing (c .before)) ∙ c .if4 .left) in
-    cc
+    let r : ℕ → ℕ → MetadataAnswer = λ n p. record { number = 0; «rom_set_count» = n; «rom_sets_ptr» = p } in
+    ap₂ r (c .before .before .before .u8-at .ensures) (c .before .before .u32-at2 .ensures)
+    ∙ sym (metadata-present _ (omega arith) (magic-there (d .before .before)) (version-there d) (sym (sets-missing (c .before)) ∙ c .if4 .left))
 
 pub parse-metadata-spec : {M : Type 1} → statement M
 parse-metadata-spec =

@@ -11,7 +11,7 @@ use lib.Seq.{getD-take, length-take-le, take-all}
 use borrow.Author.Tests.{le-ltb, ltb-true, ltb-false, eq-eqb, ne-eqb}
 use Rattle.base.specs.Choice.{pick}
 use Rattle.base.specs.Laws.{cases}
-use Rattle.le.specs.Le.{startsWith}
+use Rattle.magic.specs.Magic.{startsWith}
 use Rattle.window.specs.Window.{canRead, onFrom, pointerNumber}
 use Rattle.window.specs.Laws.{pointer-3, pointer-2, pointer-0}
 use Rattle.prog.specs.Prog.{done, fetch, recordP, run}

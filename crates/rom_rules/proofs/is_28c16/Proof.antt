@@ -2,7 +2,8 @@ use mathlib.Core.Path.{refl}
 use mathlib.Core.Bool.{true, false}
 use mathlib.Core.List.{[], _∷_}
 use borrow.Author.Needs.{needs}
-use Rattle.types.specs.Types.{romTypeNumber, romTypeOf}
+use Rattle.types.specs.Types.{romTypeOf}
+use Rattle.type_numbers.specs.TypeNumbers.{romTypeNumber}
 use Rattle.rom_rules.specs.Rules.{is28C16}
 use Rattle.rom_rules.proofs.Types.{in-arm}
 use Rattle.rom_rules.proofs.is_28c16.Statement.{statement}

@@ -4,7 +4,7 @@ use mathlib.Core.Path.{_≡_, _∙_, sym, ap}
 use mathlib.Core.Bool.{true, false}
 use borrow.Author.Tests.{lt-ltb, le-ltb, not-true, not-false}
 use borrow.Author.Needs.{needs}
-use Rattle.le.specs.Le.{startsWith}
+use Rattle.magic.specs.Magic.{startsWith}
 use Rattle.runtime_info.specs.declared.RuntimeHeader.{RuntimeHeader}
 use Rattle.runtime_info.specs.Runtime.{runtimeHeader, runtimeMagic}
 use Rattle.runtime_info.proofs.parse_and_validate_runtime_info.Statement.{statement}

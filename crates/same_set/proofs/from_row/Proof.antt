@@ -3,8 +3,8 @@ use native.Mathlib.Omega.{arith}
 use mathlib.Core.Path.{sym}
 use lib.ListN.{length, drop-of-length-le}
 use borrow.Author.Needs.{needs}
+use Rattle.base.specs.Laws.{onward}
 use Rattle.rows.specs.LentRows.{romWidth}
-use Rattle.window.specs.Laws.{onward}
 use Rattle.same_set.proofs.from_row.Statement.{statement}
 use Rattle.same_set.proofs.from_row.Tie as tie
 

@@ -12,7 +12,7 @@ either-requires : tie.Need-either-requires
 either-requires c κs = search needs
 
 returns : tie.Need-returns
-returns c = cc
+returns c = rw (c .either .ensures, c .before .past-window2 .ensures, c .before .before .past-window .ensures)
 
 pub beyond-window-spec : {M : Type 1} → statement M
 beyond-window-spec = tie.close (tie.spec past-window-requires past-window-requires-2 either-requires returns)

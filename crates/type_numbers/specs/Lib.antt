@@ -1,0 +1,2 @@
+pub mod TypeNumbers
+pub mod Laws

@@ -11,7 +11,7 @@ use Rattle.rom_reads.specs.declared.Counted.{Counted}
 use Rattle.rom_reads.specs.declared.ByteRead.{ByteRead}
 use Rattle.rom_reads.specs.Calls.{lentBy, countedOf, byteOf}
 use Rattle.c_report.specs.declared.OneromReport.{OneromReport}
-use Rattle.c_report.specs.Report.{boardIn}
+use Rattle.c_handed.specs.Handed.{boardIn}
 use Rattle.c_board.specs.Board.{addressFrom}
 use Rattle.c_board.specs.Value.{valueAfter}
 use Rattle.c_board.specs.Laws.{value-refused, value-given}

@@ -6,7 +6,7 @@ use Rattle.info.specs.Reads.{range, byte, Reply, romRead}
 use Rattle.rom_reads.specs.declared.ByteRead.{ByteRead}
 use Rattle.rom_reads.specs.Calls.{lentBy, byteOf}
 use Rattle.c_report.specs.declared.OneromReport.{OneromReport}
-use Rattle.c_report.specs.Report.{boardIn}
+use Rattle.c_handed.specs.Handed.{boardIn}
 use Rattle.c_board.specs.Board.{addressFrom}
 
 -- ROM data looks at no ROM row

@@ -20,16 +20,17 @@ use Rattle.info.specs.Lent.{Lent}
 use Rattle.info.specs.Reads.{RomRead, range, byte, lengthOf, shownByte, storedP, finished, readP, Reply, romRead, bufferLeft}
 use Rattle.rom_reads.specs.Calls.{lentBy, byteOf}
 use Rattle.rom_reads.specs.Laws.Promises.{refused-changes-nothing}
-use Rattle.fw_parser.specs.declared.Settings.{Settings}
-use Rattle.fw_parser.specs.declared.SdrrInfo.{SdrrInfo}
+use Rattle.sdrr_info.specs.declared.Settings.{Settings}
+use Rattle.sdrr_info.specs.declared.SdrrInfo.{SdrrInfo}
 use Rattle.fw_parser.specs.Opening.{Opened, opened, opening}
 use Rattle.cut_short.specs.FirstRead.{lentOf, FirstRead}
 use Rattle.cut_short.specs.Demand3.{Opens, Demand3}
 use Rattle.cut_short.specs.Laws.Proof.{demand3}
 use Rattle.c_board.specs.Board.{addressFrom}
 use Rattle.c_report.specs.declared.OneromReport.{OneromReport}
-use Rattle.c_report.specs.Report.{reportOut, boardIn}
-use Rattle.c_report.specs.Laws.{handed-back}
+use Rattle.c_report.specs.Report.{reportOut}
+use Rattle.c_handed.specs.Handed.{boardIn}
+use Rattle.c_handed.specs.Laws.{handed-back}
 use Rattle.c_open.specs.Opening.{openCall}
 use Rattle.c_reads.specs.Reads.{dataCall, byteCall}
 

@@ -19,8 +19,8 @@ use Rattle.walk.specs.Rows.{setRows, romRows, overwritten}
 use Rattle.info.specs.Lent.{Lent}
 use Rattle.info.specs.Reads.{Bytes, RomRead, lengthOf, readP, Reply, readReply, romRead}
 use Rattle.info.specs.Laws.Like.{read-unserved}
-use Rattle.fw_parser.specs.declared.Settings.{Settings}
-use Rattle.fw_parser.specs.declared.SdrrInfo.{SdrrInfo}
+use Rattle.sdrr_info.specs.declared.Settings.{Settings}
+use Rattle.sdrr_info.specs.declared.SdrrInfo.{SdrrInfo}
 use Rattle.fw_parser.specs.Opening.{Opened, refused, opened, openP, opening, setRowsLeft, romRowsLeft}
 use Rattle.cut_short.specs.Shown.{EndedOpening, Kept, KeptOpening}
 use Rattle.cut_short.specs.FirstRead.{lentOf, FirstRead}

@@ -1,7 +1,7 @@
 // The command line. Options may stand anywhere; the words are [FILE] [COMMAND SET [ADDRESS] [LEVELS]].
 use super::levels;
 use super::words;
-use fw_parser::Settings;
+use sdrr_info::Settings;
 
 // Commands.
 pub(crate) const READ: u8 = 0;

@@ -17,8 +17,8 @@ mod reads; // bytes of a set
 mod help;
 
 use args::Request;
-use fw_parser::SdrrInfo;
 use libc::STDOUT_FILENO;
+use sdrr_info::SdrrInfo;
 ghost use mathlib.Core.Path.{_≡_};
 ghost use lib.ListN.{length};
 
@@ -50,7 +50,7 @@ fn whole_report(
     rom_rows: &[u32],
 ) {
     let settings = args::settings(request);
-    let board = fw_parser::board(settings, info);
+    let board = sdrr_info::board(settings, info);
     let item = info.rom_sets;
     heading(request, image.len());
     report::records(request.machine, image, info);
@@ -71,7 +71,7 @@ fn whole_report(
 
 fn answer(request: Request, image: &[u8], info: SdrrInfo, set_rows: &[u32], rom_rows: &[u32]) {
     let settings = args::settings(request);
-    let board = fw_parser::board(settings, info);
+    let board = sdrr_info::board(settings, info);
     let command = request.command;
     if command == args::READ {
         reads::read(request, image, board, set_rows, rom_rows);

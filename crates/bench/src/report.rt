@@ -4,11 +4,11 @@ use super::form::told;
 use super::numbers;
 use super::say;
 use extra_info::ExtraInfoItem;
-use fw_parser::SdrrInfo;
 use header::SdrrInfoFields;
 use libc::STDOUT_FILENO;
 use metadata::MetadataItem;
 use pins::PinsItem;
+use sdrr_info::SdrrInfo;
 use text::Text;
 use version::FirmwareVersion;
 

@@ -6,10 +6,10 @@ use super::report;
 use super::same;
 use super::say;
 use board::Board;
-use fw_parser::SetsItem;
 use libc::STDOUT_FILENO;
 use rows::RomWord;
 use rows::SetWord;
+use sets_item::SetsItem;
 use text::Text;
 
 fn no_name(is_machine: bool, set: u32, k: u32, n: u32) {

@@ -8,8 +8,8 @@ use super::tally;
 use super::tally::Tally;
 use super::tally::Verdict;
 use super::words;
-use fw_parser::SdrrInfo;
 use rows::RomWord;
+use sdrr_info::SdrrInfo;
 
 // A cut that was opened: its length, its number and report, and the whole's report.
 struct Cut {
@@ -262,8 +262,8 @@ fn boards(c: Cut, given: &[u8]) -> Boards {
     let cut_shown = c.report;
     Boards {
         length: c.length,
-        whole: fw_parser::board(s, shown),
-        cut: fw_parser::board(s, cut_shown),
+        whole: sdrr_info::board(s, shown),
+        cut: sdrr_info::board(s, cut_shown),
     }
 }
 

@@ -7,9 +7,9 @@ use super::show;
 use super::words;
 use board::Board;
 use fw_parser::Opening;
-use fw_parser::SdrrInfo;
-use fw_parser::Settings;
 use rows::SetWord;
+use sdrr_info::SdrrInfo;
+use sdrr_info::Settings;
 
 pub(crate) fn settings(given: &[u8]) -> Settings {
     Settings {
@@ -112,6 +112,6 @@ pub(crate) fn run(given: &[u8], sets: &mut [u32], roms: &mut [u32]) {
     let s = settings(given);
     let o = open(record::image(given), s, sets, roms);
     let info = o.info;
-    show_opening(given, fw_parser::board(s, info), o, sets, roms);
+    show_opening(given, sdrr_info::board(s, info), o, sets, roms);
     run_cuts(given, info, sets, roms);
 }

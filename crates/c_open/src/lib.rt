@@ -1,6 +1,6 @@
 // The opening as C and Rust call it: the report by value.
 use c_report::OneromReport;
-use fw_parser::Settings;
+use sdrr_info::Settings;
 ghost use mathlib.Core.Path.{_≡_};
 ghost use lib.ListN.{length};
 ghost use Rattle.fw_parser.specs.Opening.{setRowsLeft, romRowsLeft};

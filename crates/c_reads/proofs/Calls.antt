@@ -13,7 +13,7 @@ use Rattle.byte_reads.specs.declared.ByteRead.{ByteRead}
 use Rattle.data_reads.specs.Calls.{countedOf}
 use Rattle.byte_reads.specs.Calls.{byteOf}
 use Rattle.c_report.specs.declared.OneromReport.{OneromReport}
-use Rattle.c_report.specs.Report.{boardIn}
+use Rattle.c_handed.specs.Handed.{boardIn}
 use Rattle.c_board.specs.Board.{addressFrom}
 use Rattle.c_board.specs.Value.{valueAfter}
 use Rattle.c_board.specs.Laws.{value-refused, value-given}

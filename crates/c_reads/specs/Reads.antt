@@ -7,7 +7,7 @@ use Rattle.info.specs.Reads.{range, byte, Reply, romRead}
 use Rattle.byte_reads.specs.declared.ByteRead.{ByteRead}
 use Rattle.byte_reads.specs.Calls.{byteOf}
 use Rattle.c_report.specs.declared.OneromReport.{OneromReport}
-use Rattle.c_report.specs.Report.{boardIn}
+use Rattle.c_handed.specs.Handed.{boardIn}
 use Rattle.c_board.specs.Board.{addressFrom}
 
 -- ROM data looks at no ROM row

@@ -26,7 +26,7 @@ pub fn data_call(
     ensures buffer { λ r. ⌜ now (buffer .exit) ≡ bufferLeft (dataCall «flash_base» «cs0_base» report (now («set_rows» .entry)) set offset (length (now (buffer .entry))) (now (count .entry)) (now (image .entry))) (now (buffer .entry)) ⌝ }
     ensures count { λ r. ⌜ now (count .exit) ≡ dataCall «flash_base» «cs0_base» report (now («set_rows» .entry)) set offset (length (now (buffer .entry))) (now (count .entry)) (now (image .entry)) .count ⌝ }
 {
-    let board = c_report::board_in(flash_base, cs0_base, report);
+    let board = c_handed::board_in(flash_base, cs0_base, report);
     let before = *count;
     let stored = data_reads::read_rom_set_data(image, board, set_rows, set, offset, buffer, before);
     *count = stored.count;
@@ -72,7 +72,7 @@ pub fn byte_call(
     ensures count { λ r. ⌜ now (count .exit) ≡ byteCall demangled «flash_base» «cs0_base» report (now («set_rows» .entry)) (now («rom_rows» .entry)) set logical address (now (levels .entry)) (now (count .entry)) (now (image .entry)) .count ⌝ }
     ensures value { λ r. ⌜ now (value .exit) ≡ valueAfter r (byteCall demangled «flash_base» «cs0_base» report (now («set_rows» .entry)) (now («rom_rows» .entry)) set logical address (now (levels .entry)) (now (count .entry)) (now (image .entry)) .byte) (now (value .entry)) ⌝ }
 {
-    let board = c_report::board_in(flash_base, cs0_base, report);
+    let board = c_handed::board_in(flash_base, cs0_base, report);
     let at = c_board::address_from(logical, address, *levels);
     let read = read_byte(image, board, set_rows, rom_rows, set, at, demangled, *count);
     *count = read.count;

@@ -3,8 +3,8 @@ use Prim.Native.Nat.{ℕ}
 use mathlib.Core.List.{List}
 use Rattle.info.specs.Lent.{Lent}
 use Rattle.info.specs.Reads.{RomRead, Reply, romRead}
-use Rattle.fw_parser.specs.declared.Settings.{Settings}
-use Rattle.fw_parser.specs.declared.SdrrInfo.{SdrrInfo}
+use Rattle.sdrr_info.specs.declared.Settings.{Settings}
+use Rattle.sdrr_info.specs.declared.SdrrInfo.{SdrrInfo}
 use Rattle.fw_parser.specs.Opening.{Opened, setRowsLeft, romRowsLeft}
 use Rattle.fw_parser.specs.Reply.{openingReply}
 

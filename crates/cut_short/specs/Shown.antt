@@ -9,7 +9,7 @@ use Rattle.text.specs.Text as T
 use Rattle.metadata.specs.declared.MetadataItem.{MetadataItem}
 use Rattle.walk.specs.Walk.{RomSet, romsOf}
 use Rattle.walk.specs.Rows.{setRows, romFront}
-use Rattle.fw_parser.specs.declared.SdrrInfo.{SdrrInfo}
+use Rattle.sdrr_info.specs.declared.SdrrInfo.{SdrrInfo}
 use Rattle.fw_parser.specs.Opening.{Opened, refused, opened}
 
 -- a name of the list, by its ROM row

@@ -1,8 +1,7 @@
 -- Document 01, "Report": the opening of an image.
-use Prim.Native.Nat.{ℕ, _+_}
-use mathlib.Core.Bool.{Bool, _||_}
+use Prim.Native.Nat.{ℕ}
 use mathlib.Core.List.{List, []}
-use lib.Dec.{ltb, eqb}
+use lib.Dec.{eqb}
 use lib.ListN.{length}
 use Rattle.base.specs.Choice.{pick}
 use Rattle.window.specs.Window.{baseAfter, beyondWindow}
@@ -16,29 +15,15 @@ use Rattle.extra_info.specs.declared.ExtraInfoItem.{ExtraInfoItem}
 use Rattle.extra_info.specs.ExtraInfo.{extraInfoP}
 use Rattle.pins.specs.declared.PinsItem.{PinsItem}
 use Rattle.pins.specs.Pins.{pinsP}
-use Rattle.walk.specs.Walk.{RomSet, Part, stop, found, walkP, romsOf}
+use Rattle.walk.specs.Walk.{RomSet, Part, stop, found, romsOf}
 use Rattle.walk.specs.Names.{walkNamesP}
 use Rattle.walk.specs.Rows.{setRows, romRows, shortSets, shortRoms, overwritten}
-pub use Rattle.records.specs.Looked.{Looked, notLookedFor, looked, setCount, setsPointer, metadataEnded, metadataItem}
-unfoldable pub use Rattle.records.specs.Looked.{lookP}
-use Rattle.fw_parser.specs.declared.Settings.{Settings}
-use Rattle.fw_parser.specs.declared.SetsItem.{SetsItem}
-use Rattle.fw_parser.specs.declared.SdrrInfo.{SdrrInfo}
-
--- ---- sets
-
--- what the sets item is made of: the set count that the walk was given, and the walk
-pub record Sets : Type 0 where
-  pub count : ℕ
-  pub walk : Part (List RomSet)
-
-abbrev pub counted : ℕ → Part (List RomSet) → Sets
-counted n w = record { count = n; walk = w }
-
--- Sets are marked ended, and none is served, where metadata ended.
-unfoldable pub setsItemP : ℕ → SdrrInfoHeader → Looked → Prog Sets
-setsItemP base h l =
-    mapP (counted (setCount h l)) (pick (metadataEnded l) (done (stop 2 [])) (walkP base (h .fields) (setCount h l) (setsPointer h l)))
+pub use Rattle.sets_source.specs.Looked.{Looked, notLookedFor, looked, setCount, setsPointer, metadataEnded, metadataItem}
+unfoldable pub use Rattle.sets_source.specs.Looked.{lookP}
+pub use Rattle.sets_item.specs.Sets.{Sets, counted, setsItem}
+unfoldable pub use Rattle.sets_item.specs.Sets.{setsItemP}
+use Rattle.sdrr_info.specs.declared.Settings.{Settings}
+use Rattle.sdrr_info.specs.declared.SdrrInfo.{SdrrInfo}
 
 -- ---- the items, in a row
 
@@ -78,11 +63,6 @@ itemsP base h =
     pinsP base (h .«pins_ptr»)
 
 -- ---- the report
-
--- An accepted item serves as many sets as are counted. A refused walk keeps that count and serves none.
-abbrev pub setsItem : ℕ → Part (List RomSet) → SetsItem
-setsItem count (stop n passed) = record { number = n; «rom_set_count» = count; served = 0 }
-setsItem count (found ss) = record { number = 0; «rom_set_count» = count; served = count }
 
 unfoldable pub reportOf : SdrrInfoHeader → Items → SdrrInfo
 reportOf h i =

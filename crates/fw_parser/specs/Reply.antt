@@ -5,9 +5,7 @@ use Rattle.header.specs.Header.{noHeader}
 use Rattle.metadata.specs.declared.MetadataItem.{MetadataItem}
 use Rattle.extra_info.specs.ExtraInfo as extra
 use Rattle.pins.specs.Pins as pins
-use Rattle.board.specs.declared.Board.{Board}
-use Rattle.fw_parser.specs.declared.Settings.{Settings}
-use Rattle.fw_parser.specs.declared.SdrrInfo.{SdrrInfo}
+use Rattle.sdrr_info.specs.declared.SdrrInfo.{SdrrInfo}
 use Rattle.fw_parser.specs.declared.Opening.{Opening}
 use Rattle.fw_parser.specs.Opening.{Opened, opened}
 use Rattle.fw_parser.specs.Opening as o
@@ -31,9 +29,3 @@ refusedOpening n = record { number = n; info = noReport }
 unfoldable pub openingReply : Opened → Opening
 openingReply (o.refused n) = refusedOpening n
 openingReply (opened r ss names) = record { number = 0; info = r }
-
--- ---- what later calls look at of a report, and where the image stands
-
-abbrev pub boardOf : Settings → SdrrInfo → Board
-boardOf s r =
-    record { «flash_base» = s .«flash_base»; «cs0_base» = s .«cs0_base»; line = r .fields .«stm_line»; pins = r .pins; served = r .«rom_sets» .served }

@@ -1,46 +1,17 @@
 // The opening of a board's image (lib.rs `parse_flash`).
-use board::Board;
-use extra_info::ExtraInfoItem;
 use header::SdrrInfoFields;
 use metadata::MetadataItem;
-use pins::PinsItem;
 use records::Records;
-use records::SetsSource;
+use sdrr_info::SdrrInfo;
+use sdrr_info::Settings;
+use sets_item::SetsItem;
 use text::Text;
 ghost use mathlib.Core.Path.{_≡_};
 ghost use lib.ListN.{length};
-ghost use Rattle.prog.specs.Prog.{run};
 ghost use Rattle.text.specs.Text.{refusedText};
-ghost use Rattle.walk.specs.Names.{walkNamesP};
-ghost use Rattle.rom_rows.specs.Reply as rows;
 ghost use Rattle.fw_parser.specs.Opening.{opening, setRowsLeft, romRowsLeft};
-ghost use Rattle.fw_parser.specs.Reply.{noReport, openingReply, boardOf};
-ghost use Rattle.fw_parser.specs.Code.{walkOf, isShort, itemOf, reportWith};
-
-// Where the image stands: its base, the base for an Rp2350, and the header's offset.
-pub struct Settings {
-    pub flash_base: u32,
-    pub cs0_base: u32,
-    pub info_offset: u32,
-}
-
-// The sets item: its number, the set count, and the sets served.
-pub struct SetsItem {
-    pub number: u8,
-    pub rom_set_count: u8,
-    pub served: u32,
-}
-
-// The report.
-pub struct SdrrInfo {
-    pub fields: SdrrInfoFields,
-    pub build_date: Text,
-    pub hw_rev: Text,
-    pub extra_info: ExtraInfoItem,
-    pub metadata: MetadataItem,
-    pub rom_sets: SetsItem,
-    pub pins: PinsItem,
-}
+ghost use Rattle.fw_parser.specs.Reply.{noReport, openingReply};
+ghost use Rattle.fw_parser.specs.Code.{isShort, reportWith};
 
 // 0 and the report, or the number of the refusal and the fixed report of `no_report`.
 pub struct Opening {
@@ -77,49 +48,6 @@ fn no_report() -> SdrrInfo
     }
 }
 
-// The sets served are the set count where the walk is accepted, otherwise none.
-fn sets_item(number: u8, count: u8) -> SetsItem
-    ensures { λ r. ⌜ r ≡ itemOf number count ⌝ }
-{
-    let mut served = 0;
-    if number == 0 {
-        served = count as u32;
-    }
-    SetsItem {
-        number,
-        rom_set_count: count,
-        served,
-    }
-}
-
-// The walk that metadata leaves: none where metadata ended.
-fn walk_sets(
-    image: &[u8],
-    base: u32,
-    fields: SdrrInfoFields,
-    source: SetsSource,
-    set_rows: &mut [u32],
-    rom_rows: &mut [u32],
-) -> u8
-    ensures reply { λ r. ⌜ r ≡ rows.walkReply (walkOf base fields source (now (image .entry))) (length (now («set_rows» .entry))) (length (now («rom_rows» .entry))) .number ⌝ }
-    ensures sets { λ r. ⌜ now («set_rows» .exit) ≡ rows.walkSetRows (walkOf base fields source (now (image .entry))) (length (now («rom_rows» .entry))) (now («set_rows» .entry)) ⌝ }
-    ensures roms { λ r. ⌜ now («rom_rows» .exit) ≡ rows.walkRomRows (walkOf base fields source (now (image .entry))) (run (walkNamesP base (walkOf base fields source (now (image .entry)))) (now (image .entry))) (length (now («set_rows» .entry))) (now («rom_rows» .entry)) ⌝ }
-{
-    if source.ended {
-        return 2;
-    }
-    let w = rom_rows::read_rom_sets(
-        image,
-        base,
-        fields,
-        source.rom_set_count,
-        source.rom_sets_ptr,
-        set_rows,
-        rom_rows,
-    );
-    w.number
-}
-
 // 44 and 45, the only numbers of a walk that refuse the opening.
 fn is_short(number: u8) -> bool
     ensures { λ r. ⌜ r ≡ isShort number ⌝ }
@@ -136,7 +64,7 @@ fn report(fields: SdrrInfoFields, records: Records, number: u8) -> SdrrInfo
     let extra_info = records.extra_info;
     let source = records.sets;
     let metadata = source.metadata;
-    let rom_sets = sets_item(number, source.rom_set_count);
+    let rom_sets = sets_item::sets_item(number, source.rom_set_count);
     let pins = records.pins;
     SdrrInfo {
         fields,
@@ -180,27 +108,10 @@ pub fn parse_flash(
     let base = window::base_after(settings.flash_base, settings.cs0_base, line);
     let records = records::read_records(image, base, h);
     let source = records.sets;
-    let number = walk_sets(image, base, fields, source, set_rows, rom_rows);
+    let number = sets_item::walk_sets(image, base, fields, source, set_rows, rom_rows);
     let info = report(fields, records, number);
     if is_short(number) {
         return Opening { number, info: none };
     }
     Opening { number: 0, info }
-}
-
-// What later calls look at of an opened board.
-pub fn board(settings: Settings, info: SdrrInfo) -> Board
-    ensures { λ r. ⌜ r ≡ boardOf settings info ⌝ }
-{
-    let fields = info.fields;
-    let line = fields.stm_line;
-    let pins = info.pins;
-    let sets = info.rom_sets;
-    Board {
-        flash_base: settings.flash_base,
-        cs0_base: settings.cs0_base,
-        line,
-        pins,
-        served: sets.served,
-    }
 }

@@ -17,7 +17,7 @@ fn lacks_first_rom(set_rows: &[u32], rom_rows: &[u32], set: u32) -> bool
 {
     let count = rows::set_word(set_rows, set, SetWord::RomCount);
     let first = rows::set_word(set_rows, set, SetWord::FirstRom);
-    base::both(count != 0, rows::is_bad_rom_row(rom_rows, first))
+    base::both(count != 0, row_types::is_bad_rom_row(rom_rows, first))
 }
 
 fn ungoverned_by(number: u8) -> GoverningSet
@@ -41,7 +41,7 @@ pub fn governing(set_rows: &[u32], rom_rows: &[u32], set: u32) -> GoverningSet
         return ungoverned_by(4);
     }
     let rom_count = rows::set_word(set_rows, set, SetWord::RomCount);
-    let rom_type = rows::rom_type(rom_rows, rows::set_word(set_rows, set, SetWord::FirstRom));
+    let rom_type = row_types::rom_type(rom_rows, rows::set_word(set_rows, set, SetWord::FirstRom));
     GoverningSet {
         number: 0,
         rom_count,

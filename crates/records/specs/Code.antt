@@ -6,13 +6,9 @@ use Rattle.text.specs.Text.{textP}
 use Rattle.header.specs.declared.SdrrInfoHeader.{SdrrInfoHeader}
 use Rattle.extra_info.specs.ExtraInfo.{extraInfoP}
 use Rattle.pins.specs.Pins.{pinsP}
-use Rattle.records.specs.declared.SetsSource.{SetsSource}
 use Rattle.records.specs.declared.Records.{Records}
-use Rattle.records.specs.Looked.{Looked, lookP, setCount, setsPointer, metadataEnded, metadataItem}
-
--- what metadata, looked for or not, gives to the report and to the walk
-abbrev pub sourceOf : SdrrInfoHeader → Looked → SetsSource
-sourceOf h l = record { metadata = metadataItem l; ended = metadataEnded l; «rom_set_count» = setCount h l; «rom_sets_ptr» = setsPointer h l }
+use Rattle.sets_source.specs.Looked.{lookP}
+use Rattle.sets_source.specs.Code.{sourceOf}
 
 -- on the image x with the base in force after the header
 unfoldable pub recordsOf : ℕ → SdrrInfoHeader → List ℕ → Records

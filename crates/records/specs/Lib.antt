@@ -1,3 +1,1 @@
-pub mod Looked
-pub mod Laws
 pub mod Code

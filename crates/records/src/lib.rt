@@ -1,8 +1,8 @@
 // The records at the header's pointers.
 use extra_info::ExtraInfoItem;
 use header::SdrrInfoHeader;
-use metadata::MetadataItem;
 use pins::PinsItem;
+use sets_source::SetsSource;
 use text::Text;
 use version::FirmwareVersion;
 ghost use mathlib.Core.Path.{_≡_};
@@ -10,21 +10,14 @@ ghost use Rattle.prog.specs.Prog.{run};
 ghost use Rattle.text.specs.Text.{textP};
 ghost use Rattle.extra_info.specs.ExtraInfo.{extraInfoP};
 ghost use Rattle.pins.specs.Pins.{pinsP};
-ghost use Rattle.records.specs.Looked.{lookP};
-ghost use Rattle.records.specs.Code.{sourceOf, recordsOf};
+ghost use Rattle.sets_source.specs.Looked.{lookP};
+ghost use Rattle.sets_source.specs.Code.{sourceOf};
+ghost use Rattle.records.specs.Code.{recordsOf};
 
 // The image, and the base in force: what the readers below are given. Each leaves the work to a function on the slice and the number.
 struct Window<'a> {
     image: &'a [u8],
     base: u32,
-}
-
-// Metadata's item, and what the walk goes by: the header's count and pointer below 0.5.0, metadata's from then on.
-pub struct SetsSource {
-    pub metadata: MetadataItem,
-    pub ended: bool,
-    pub rom_set_count: u8,
-    pub rom_sets_ptr: u32,
 }
 
 pub struct Records {
@@ -33,28 +26,6 @@ pub struct Records {
     pub extra_info: ExtraInfoItem,
     pub sets: SetsSource,
     pub pins: PinsItem,
-}
-
-// The version's test stands here, in a function on the slice, so that the readers below have no branch.
-fn sets_source(image: &[u8], base: u32, header: SdrrInfoHeader) -> SetsSource
-    ensures { λ r. ⌜ r ≡ sourceOf header (run (lookP base header) (now (image .entry))) ⌝ }
-{
-    let fields = header.fields;
-    if !version::from_0_5_0(fields.version) {
-        return SetsSource {
-            metadata: MetadataItem::NotLookedFor,
-            ended: false,
-            rom_set_count: header.rom_set_count,
-            rom_sets_ptr: header.rom_sets_ptr,
-        };
-    }
-    let m = metadata::read_one_rom_metadata_header_info(image, base, header.rom_sets_ptr);
-    SetsSource {
-        metadata: MetadataItem::Looked(m.number),
-        ended: m.number == 2,
-        rom_set_count: m.rom_set_count,
-        rom_sets_ptr: m.rom_sets_ptr,
-    }
 }
 
 fn string_at<'a>(w: Window<'a>, ptr: u32) -> Text
@@ -72,7 +43,7 @@ fn extra_info_at<'a>(w: Window<'a>, ptr: u32, version: FirmwareVersion) -> Extra
 fn metadata_at<'a>(w: Window<'a>, header: SdrrInfoHeader) -> SetsSource
     ensures { λ r. ⌜ r ≡ sourceOf header (run (lookP (w .entry .base) header) (now (w .entry .image))) ⌝ }
 {
-    sets_source(w.image, w.base, header)
+    sets_source::sets_source(w.image, w.base, header)
 }
 
 fn pins_at<'a>(w: Window<'a>, ptr: u32) -> PinsItem

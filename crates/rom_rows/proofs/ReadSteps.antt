@@ -14,14 +14,14 @@ use Rattle.text.specs.declared.Text.{Text}
 use Rattle.header.specs.declared.SdrrInfoFields.{SdrrInfoFields}
 use Rattle.version.specs.Version.{from060}
 use Rattle.header.specs.Header.{hasFilenames}
-use Rattle.walk.specs.declared.Walked.{Walked}
+use Rattle.judge_walk.specs.declared.Walked.{Walked}
 use Rattle.walk.specs.Walk.{RomSet, Part, stop, found, romsOf, walkP}
 use Rattle.walk.specs.Names.{namesP, walkNamesP}
 use Rattle.walk.specs.Rows.{setRows, romRows, overwritten}
 use Rattle.walk.specs.Laws.Rows.{set-rows-length}
 use Rattle.walk.specs.Code.Passes.{setsAt}
 use Rattle.walk.specs.Laws.Passes.{sets-length}
-use Rattle.walk.specs.Code.Judged.{judgedOf, walk-found}
+use Rattle.judge_walk.specs.Code.{judgedOf, walk-found}
 use Rattle.rom_rows.specs.Reply.{refusedWalk, walkReply, walkSetRows, walkRomRows}
 use Rattle.write_rows.specs.Code.{namedRows, rows-named, named-length, rowsFrom, rows-from}
 

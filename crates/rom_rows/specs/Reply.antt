@@ -4,10 +4,10 @@ use mathlib.Core.List.{List}
 use lib.ListN.{length}
 use Rattle.base.specs.Choice.{pick}
 use Rattle.text.specs.declared.Text.{Text}
-use Rattle.walk.specs.declared.Walked.{Walked}
+use Rattle.judge_walk.specs.declared.Walked.{Walked}
 use Rattle.walk.specs.Walk.{RomSet, Part, stop, found, romsOf}
 use Rattle.walk.specs.Rows.{setRows, romRows, shortSets, shortRoms, overwritten}
-pub use Rattle.walk.specs.Code.Judged.{refusedWalk}
+pub use Rattle.judge_walk.specs.Code.{refusedWalk}
 
 -- "Walk": only a walk otherwise accepted gives 44, then 45. The lengths of the lent rows are in words.
 unfoldable pub walkReply : Part (List RomSet) → ℕ → ℕ → Walked

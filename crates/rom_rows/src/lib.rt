@@ -6,7 +6,7 @@ ghost use Rattle.walk.specs.Walk.{walkP};
 ghost use Rattle.walk.specs.Names.{walkNamesP};
 ghost use Rattle.rom_rows.specs.Reply.{refusedWalk, walkReply, walkSetRows, walkRomRows};
 use header::SdrrInfoFields;
-use walk::Walked;
+use judge_walk::Walked;
 
 fn refuse(number: u8) -> Walked
     ensures { λ r. ⌜ r ≡ refusedWalk number ⌝ }
@@ -31,7 +31,7 @@ pub fn read_rom_sets(
     ensures sets { λ r. ⌜ now («set_rows» .exit) ≡ walkSetRows (run (walkP base fields count ptr) (now (image .entry))) (length (now («rom_rows» .entry))) (now («set_rows» .entry)) ⌝ }
     ensures roms { λ r. ⌜ now («rom_rows» .exit) ≡ walkRomRows (run (walkP base fields count ptr) (now (image .entry))) (run (walkNamesP base (run (walkP base fields count ptr) (now (image .entry)))) (now (image .entry))) (length (now («set_rows» .entry))) (now («rom_rows» .entry)) ⌝ }
 {
-    let judged = walk::judge_rom_sets(image, base, fields, count, ptr);
+    let judged = judge_walk::judge_rom_sets(image, base, fields, count, ptr);
     if judged.number != 0 {
         return judged;
     }

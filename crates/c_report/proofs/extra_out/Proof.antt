@@ -14,7 +14,7 @@ pio-number-requires c κs = search needs
 
 returns : tie.Need-returns
 unfolding extraOut
-returns c = cc
+returns c = rw (c .pio-number .ensures, c .before .port-number .ensures, c .before .before .bit-of .ensures)
 
 pub extra-out-spec : {M : Type 1} → statement M
 extra-out-spec =

@@ -35,7 +35,9 @@ bit-of-requires-8 c κs = search needs
 
 returns : tie.Need-returns
 unfolding headerOut
-returns c = cc
+returns c =
+    let d = c .before .before .before .before .before in
+    rw (c .bit-of8 .ensures, c .before .bit-of7 .ensures, c .before .before .bit-of6 .ensures, c .before .before .before .bit-of5 .ensures, c .before .before .before .before .bit-of4 .ensures, d .bit-of3 .ensures, d .before .bit-of2 .ensures, d .before .before .bit-of .ensures, d .before .before .before .storage-number .ensures, d .before .before .before .before .line-number .ensures)
 
 pub header-out-spec : {M : Type 1} → statement M
 header-out-spec =

@@ -20,7 +20,7 @@ port-number-requires-5 c κs = search needs
 
 returns : tie.Need-returns
 unfolding pinsOut
-returns c = cc
+returns c = rw (c .port-number5 .ensures, c .before .port-number4 .ensures, c .before .before .port-number3 .ensures, c .before .before .before .port-number2 .ensures, c .before .before .before .before .port-number .ensures)
 
 pub pins-out-spec : {M : Type 1} → statement M
 pins-out-spec =

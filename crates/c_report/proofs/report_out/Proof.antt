@@ -34,7 +34,9 @@ pins-out-requires c κs = search needs
 
 returns : tie.Need-returns
 unfolding reportOut
-returns c = cc
+returns c =
+    let d = c .before .before .before in
+    rw (c .pins-out .ensures, c .before .sets-out .ensures, c .before .before .metadata-out .ensures, d .extra-out .ensures, d .before .string-out2 .ensures, d .before .before .string-out .ensures, d .before .before .before .header-out .ensures)
 
 pub report-out-spec : {M : Type 1} → statement M
 report-out-spec =

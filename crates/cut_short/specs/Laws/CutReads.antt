@@ -20,8 +20,8 @@ use Rattle.walk.specs.Laws.Rows.{rom-rows-length, type-words}
 use Rattle.info.specs.Lent.{Lent}
 use Rattle.info.specs.Reads.{Bytes, RomRead, lengthOf, readP, Reply, readReply, romRead}
 use Rattle.info.specs.Laws.Like.{Like, read-like, read-honest, read-unserved}
-use Rattle.fw_parser.specs.declared.Settings.{Settings}
-use Rattle.fw_parser.specs.declared.SdrrInfo.{SdrrInfo}
+use Rattle.sdrr_info.specs.declared.Settings.{Settings}
+use Rattle.sdrr_info.specs.declared.SdrrInfo.{SdrrInfo}
 use Rattle.cut_short.specs.Shown.{Kept}
 use Rattle.cut_short.specs.ReadAfter.{lentOf}
 

@@ -5,10 +5,11 @@ use Prim.Native.Nat.{ℕ, _≤_}
 use mathlib.Core.Path.{_≡_, refl, ap}
 use mathlib.Core.List.{List}
 use lib.ListN.{length, take}
-use Rattle.fw_parser.specs.declared.Settings.{Settings}
-use Rattle.fw_parser.specs.declared.SdrrInfo.{SdrrInfo}
+use Rattle.sdrr_info.specs.declared.Settings.{Settings}
+use Rattle.sdrr_info.specs.declared.SdrrInfo.{SdrrInfo}
 use Rattle.fw_parser.specs.Opening.{Opened, refused, opened}
-use Rattle.fw_parser.specs.Reply.{openingReply, boardOf}
+use Rattle.sdrr_info.specs.Report.{boardOf}
+use Rattle.fw_parser.specs.Reply.{openingReply}
 use Rattle.fw_parser.specs.Laws.Fits.{Fits, opening-fits}
 use Rattle.fw_parser.specs.Laws.Promises.{replied, setsAfter, romsAfter}
 use Rattle.info.specs.Lent.{Lent, lentBy}

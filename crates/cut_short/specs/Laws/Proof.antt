@@ -19,8 +19,8 @@ use Rattle.walk.specs.Rows.{setRows, romRows, overwritten}
 use Rattle.info.specs.Lent.{Lent}
 use Rattle.info.specs.Reads.{RomRead, readP, Reply, readReply, romRead}
 use Rattle.info.specs.Laws.Like.{Like, read-unserved}
-use Rattle.fw_parser.specs.declared.Settings.{Settings}
-use Rattle.fw_parser.specs.declared.SdrrInfo.{SdrrInfo}
+use Rattle.sdrr_info.specs.declared.Settings.{Settings}
+use Rattle.sdrr_info.specs.declared.SdrrInfo.{SdrrInfo}
 use Rattle.fw_parser.specs.Opening.{Opened, refused, opened, openP, opening, setRowsLeft, romRowsLeft}
 use Rattle.fw_parser.specs.Reply.{noReport, openingReply}
 use Rattle.fw_parser.specs.Laws.Items.{opened-names}

@@ -1,17 +1,16 @@
 -- Each item has a program of its own: the header's reads, then those that the item needs. The opening's item is its answer.
 -- Assumes nothing.
 use Prim.Native.Nat.{ℕ}
-use native.Mathlib.Omega.{arith}
 use mathlib.Core.Path.{_≡_, refl, sym, ap, _∙_}
 use mathlib.Core.Bool.{Bool, true, false}
-use mathlib.Core.List.{List, [], _∷_}
+use mathlib.Core.List.{List}
 use lib.Dec.{eqb}
 use lib.ListN.{length, getD}
 use Rattle.base.specs.Laws.{clash}
 use Rattle.base.specs.Choice.{pick}
 use Rattle.window.specs.Window.{baseAfter}
 use Rattle.prog.specs.Prog.{Prog, done, _>>=_, also, mapP, run}
-use Rattle.prog.specs.Laws.Run.{run-done, run-bind, run-map, run-also}
+use Rattle.prog.specs.Laws.Run.{run-bind, run-map, run-also}
 use Rattle.text.specs.declared.Text.{Text}
 use Rattle.text.specs.Text.{textP}
 use Rattle.header.specs.declared.SdrrInfoHeader.{SdrrInfoHeader}
@@ -25,8 +24,8 @@ use Rattle.walk.specs.Walk.{RomSet, Part, stop, found, romsOf}
 use Rattle.walk.specs.Rows.{shortSets, shortRoms}
 use Rattle.walk.specs.Names.{walkNamesP}
 use Rattle.walk.specs.Laws.Ended.{names-each, no-name-shown}
-use Rattle.fw_parser.specs.declared.Settings.{Settings}
-use Rattle.fw_parser.specs.declared.SdrrInfo.{SdrrInfo}
+use Rattle.sdrr_info.specs.declared.Settings.{Settings}
+use Rattle.sdrr_info.specs.declared.SdrrInfo.{SdrrInfo}
 use Rattle.fw_parser.specs.Opening.{Looked, lookP, Sets, setsItemP, Items, ItemAnswers, itemsOf, itemsP, metadataItem, setsItem, reportOf, setsOf, Opened, refused, opened, verdict, afterHeader, openP}
 
 -- ---- the programs

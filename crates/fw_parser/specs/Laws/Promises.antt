@@ -13,8 +13,8 @@ use Rattle.walk.specs.Walk.{RomSet, romsOf}
 use Rattle.rows.specs.LentRows.{setWidth, romWidth}
 use Rattle.walk.specs.Rows.{setRows, romRows}
 use Rattle.walk.specs.Laws.Rows.{set-rows-length, rom-rows-length}
-use Rattle.fw_parser.specs.declared.Settings.{Settings}
-use Rattle.fw_parser.specs.declared.SdrrInfo.{SdrrInfo}
+use Rattle.sdrr_info.specs.declared.Settings.{Settings}
+use Rattle.sdrr_info.specs.declared.SdrrInfo.{SdrrInfo}
 use Rattle.fw_parser.specs.declared.Opening.{Opening}
 use Rattle.fw_parser.specs.Opening.{Opened, refused, opened, opening, setRowsLeft, romRowsLeft}
 use Rattle.fw_parser.specs.Reply.{noReport, openingReply}

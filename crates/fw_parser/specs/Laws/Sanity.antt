@@ -1,11 +1,10 @@
 -- What document 01 states twice agrees: the sets served, the set count and the rows listed; the stride.
 -- Assumes nothing.
-use Prim.Native.Nat.{ℕ, _+_}
+use Prim.Native.Nat.{ℕ}
 use native.Mathlib.Omega.{arith}
-use mathlib.Core.Path.{_≡_, refl, sym, ap, _∙_, subst}
-use mathlib.Core.Logic.{_⊎_, inl, inr, ⊎-elim}
+use mathlib.Core.Path.{_≡_, refl, sym, ap, subst}
 use mathlib.Core.Bool.{Bool, true, false}
-use mathlib.Core.List.{List, [], _∷_}
+use mathlib.Core.List.{List, []}
 use lib.ListN.{length}
 use Rattle.base.specs.Choice.{pick}
 use Rattle.prog.specs.Prog.{run, done}
@@ -17,10 +16,10 @@ use Rattle.version.specs.Version.{from060}
 use Rattle.walk.specs.Walk.{RomSet, Part, stop, found, walkP, romsOf, extraByte, stride}
 use Rattle.walk.specs.Rows.{countsOf}
 use Rattle.walk.specs.Laws.Found.{Sound, Counted, walk-sound, counts-roms}
-use Rattle.fw_parser.specs.declared.Settings.{Settings}
-use Rattle.fw_parser.specs.declared.SetsItem.{SetsItem}
-use Rattle.fw_parser.specs.declared.SdrrInfo.{SdrrInfo}
-use Rattle.fw_parser.specs.Opening.{Looked, metadataEnded, setCount, setsPointer, Sets, counted, setsItemP, setsItem, setsOf, Opened, opened, openP}
+use Rattle.sdrr_info.specs.declared.Settings.{Settings}
+use Rattle.sets_item.specs.declared.SetsItem.{SetsItem}
+use Rattle.sdrr_info.specs.declared.SdrrInfo.{SdrrInfo}
+use Rattle.fw_parser.specs.Opening.{Looked, metadataEnded, setCount, setsPointer, Sets, counted, setsItemP, setsItem, setsOf, opened, openP}
 use Rattle.fw_parser.specs.Laws.Items.{opened-sets}
 
 -- ---- sets

@@ -1,80 +1,41 @@
 -- The opening, outcome by outcome, in the terms of the code: beyond the window; the header refused; the rows too short; opened.
 -- Assumes nothing.
-use Prim.Native.Nat.{ℕ, _+_, _-_, _≤_}
+use Prim.Native.Nat.{ℕ, _-_, _≤_}
 use native.Mathlib.Omega.{arith}
 use mathlib.Core.Path.{_≡_, refl, sym, ap, subst, _∙_}
-use mathlib.Core.Bool.{Bool, true, false, _||_}
-use mathlib.Core.List.{List, []}
+use mathlib.Core.Bool.{Bool, true, false}
+use mathlib.Core.List.{List}
 use lib.Dec.{ltb}
 use lib.ListN.{length}
-use borrow.Author.Tests.{lt-ltb, le-ltb, ltb-true, ltb-false, ne-eqb, eq-eqb}
-use Rattle.base.specs.Laws.{cases, clash}
+use borrow.Author.Tests.{le-ltb, ne-eqb, eq-eqb}
+use Rattle.base.specs.Laws.{clash}
 use Rattle.base.specs.Choice.{pick}
 use Rattle.window.specs.Window.{baseAfter, beyondWindow}
 use Rattle.prog.specs.Prog.{done, run}
 use Rattle.prog.specs.Laws.Run.{run-done, run-bind, run-map, run-also}
 use Rattle.text.specs.declared.Text.{Text}
 use Rattle.text.specs.Text.{textP}
-use Rattle.header.specs.declared.SdrrInfoFields.{SdrrInfoFields}
 use Rattle.header.specs.declared.SdrrInfoHeader.{SdrrInfoHeader}
 use Rattle.header.specs.declared.HeaderAnswer.{HeaderAnswer}
 use Rattle.header.specs.Header.{headerP}
 use Rattle.extra_info.specs.ExtraInfo.{extraInfoP}
 use Rattle.pins.specs.Pins.{pinsP}
-use Rattle.walk.specs.declared.Walked.{Walked}
-use Rattle.walk.specs.Walk.{RomSet, Part, stop, found, walkP, romsOf}
+use Rattle.walk.specs.Walk.{RomSet, Part, stop, found, romsOf}
 use Rattle.walk.specs.Names.{walkNamesP}
 use Rattle.walk.specs.Rows.{setRows, setRowsAfter, romRows, shortSets, shortRoms, overwritten}
-use Rattle.walk.specs.Laws.Numbers.{Numbered, walk-numbered}
+use Rattle.walk.specs.Laws.Numbers.{Numbered}
 use Rattle.rom_rows.specs.Reply as rows
-use Rattle.records.specs.declared.SetsSource.{SetsSource}
 use Rattle.records.specs.declared.Records.{Records}
-use Rattle.records.specs.Code.{sourceOf, recordsOf}
-use Rattle.fw_parser.specs.declared.Settings.{Settings}
-use Rattle.fw_parser.specs.declared.SdrrInfo.{SdrrInfo}
+use Rattle.sets_source.specs.Code.{sourceOf}
+use Rattle.records.specs.Code.{recordsOf}
+use Rattle.sets_item.specs.Code.{walkOf, itemOf}
+use Rattle.sets_item.specs.Laws.{Walks, left-numbered, sets-run, item-refused, item-accepted}
+use Rattle.sdrr_info.specs.declared.Settings.{Settings}
+use Rattle.sdrr_info.specs.declared.SdrrInfo.{SdrrInfo}
 use Rattle.fw_parser.specs.declared.Opening.{Opening}
-use Rattle.fw_parser.specs.Opening.{Looked, lookP, setCount, setsPointer, metadataEnded, counted, setsItemP, Items, itemsOf, itemsP, setsItem, reportOf, setsOf, Opened, refused, opened, verdict, afterHeader, openP, opening, setRowsLeft, romRowsLeft}
+use Rattle.fw_parser.specs.Opening.{Looked, lookP, setCount, counted, Items, itemsOf, itemsP, setsItem, reportOf, setsOf, Opened, refused, opened, verdict, afterHeader, openP, opening, setRowsLeft, romRowsLeft}
 use Rattle.fw_parser.specs.Reply.{noReport, refusedOpening, openingReply}
-use Rattle.fw_parser.specs.Code.{walkOf, isShort, itemOf, reportWith}
-
--- ---- the walk that metadata leaves
-
-module _ (x : List ℕ) (base : ℕ) (f : SdrrInfoFields) (s : SetsSource) where
-  walk-ended : s .ended ≡ true → walkOf base f s x ≡ stop 2 []
-  unfolding walkOf
-  walk-ended e = rw e
-
-  walk-made : s .ended ≡ false → walkOf base f s x ≡ run (walkP base f (s .«rom_set_count») (s .«rom_sets_ptr»)) x
-  unfolding walkOf
-  walk-made e = rw e
-
-  -- the walk's number, and both rows as it leaves them
-  pub record Walks (ls lr : List ℕ) (v : ℕ) (t u : List ℕ) : Type 0 where
-    pub reply : v ≡ rows.walkReply (walkOf base f s x) (length ls) (length lr) .number
-    pub set-rows : t ≡ rows.walkSetRows (walkOf base f s x) (length lr) ls
-    pub rom-rows : u ≡ rows.walkRomRows (walkOf base f s x) (run (walkNamesP base (walkOf base f s x)) x) (length ls) lr
-
-  module _ (ls lr : List ℕ) where
-    -- by what the walk is
-    walks : (w : Part (List RomSet)) → walkOf base f s x ≡ w → (v : ℕ) (t u : List ℕ) → v ≡ rows.walkReply w (length ls) (length lr) .number
-        → t ≡ rows.walkSetRows w (length lr) ls → u ≡ rows.walkRomRows w (run (walkNamesP base w) x) (length ls) lr → Walks ls lr v t u
-    walks w e v t u k g h = record { reply = rw e k; set-rows = rw e g; rom-rows = rw e h }
-
-    pub by-ended : s .ended ≡ true → Walks ls lr 2 ls lr
-    unfolding rows.walkReply rows.walkSetRows rows.walkRomRows
-    by-ended e = walks (stop 2 []) (walk-ended e) 2 ls lr refl refl refl
-
-    pub by-made : s .ended ≡ false → (r : Walked) (t u : List ℕ) → r ≡ rows.walkReply (run (walkP base f (s .«rom_set_count») (s .«rom_sets_ptr»)) x) (length ls) (length lr)
-        → t ≡ rows.walkSetRows (run (walkP base f (s .«rom_set_count») (s .«rom_sets_ptr»)) x) (length lr) ls
-        → u ≡ rows.walkRomRows (run (walkP base f (s .«rom_set_count») (s .«rom_sets_ptr»)) x) (run (walkNamesP base (run (walkP base f (s .«rom_set_count») (s .«rom_sets_ptr»)) x)) x) (length ls) lr
-        → Walks ls lr (r .number) t u
-    by-made e r t u k g h = walks (run (walkP base f (s .«rom_set_count») (s .«rom_sets_ptr»)) x) (walk-made e) (r .number) t u (ap (λ (w : Walked). w .number) k) g h
-
-  left-numbered : Numbered (walkOf base f s x)
-  left-numbered =
-      cases (s .ended)
-      (λ e. subst Numbered (sym (walk-ended e)) ((λ (z : _≡_ {A = ℕ} 2 0). omega arith), omega arith))
-      (λ e. subst Numbered (sym (walk-made e)) (walk-numbered x base f (s .«rom_set_count») (s .«rom_sets_ptr»)))
+use Rattle.fw_parser.specs.Code.{isShort, reportWith}
 
 -- ---- what the walk's number decides
 
@@ -113,11 +74,11 @@ module _ (o : Part (List RomSet) → Opened) (names : List Text) (ls lr : List �
         go false false f g h = both (sym s ∙ ap isShort h)
 
     long : (w : Part (List RomSet)) → Numbered w → v ≡ rows.walkReply w (length ls) (length lr) .number → isShort v ≡ false → Long v w
-    unfolding rows.walkReply rows.walkSetRows rows.walkRomRows itemOf setRowsAfter romsOf romRows
+    unfolding rows.walkReply rows.walkSetRows rows.walkRomRows setRowsAfter romsOf romRows
     long (stop k passed) t e s =
         record {
           opens = rw (le-ltb (length ls) 0 (omega arith), le-ltb (length lr) 0 (omega arith));
-          item = λ count. rw (e, ne-eqb k 0 (t .0)) refl;
+          item = λ count. rw e (item-refused count k passed (t .0));
           sets = refl;
           roms = refl;
         }
@@ -127,7 +88,7 @@ module _ (o : Part (List RomSet) → Opened) (names : List Text) (ls lr : List �
             → v ≡ pick c (rows.refusedWalk 44) (pick d (rows.refusedWalk 45) (record { number = 0; «rom_count» = length (romsOf ss) })) .number → Long v (found ss)
         go true d f g h = both (sym (ap isShort h) ∙ s)
         go false true f g h = both (sym (ap isShort h) ∙ s)
-        go false false f g h = record { opens = rw (f, g); item = λ count. rw h refl; sets = rw (f, g); roms = rw (f, g) }
+        go false false f g h = record { opens = rw (f, g); item = λ count. rw h (item-accepted count ss); sets = rw (f, g); roms = rw (f, g) }
 
 -- ---- the items behind an accepted header
 
@@ -138,17 +99,6 @@ module _ (x : List ℕ) (base : ℕ) (h : SdrrInfoHeader) where
   -- the walk, as the records leave it
   abbrev walk : Part (List RomSet)
   walk = walkOf base (h .fields) (sourceOf h look) x
-
-  sets-run : run (setsItemP base h look) x ≡ counted (setCount h look) walk
-  unfolding setsItemP walkOf
-  sets-run =
-      run-map x (counted (setCount h look)) (pick (metadataEnded look) (done (stop 2 [])) (walkP base (h .fields) (setCount h look) (setsPointer h look)))
-      ∙ ap (counted (setCount h look)) (go (metadataEnded look))
-    where
-      go : (b : Bool) → run (pick b (done (stop 2 [])) (walkP base (h .fields) (setCount h look) (setsPointer h look))) x
-          ≡ pick b (stop 2 []) (run (walkP base (h .fields) (setCount h look) (setsPointer h look)) x)
-      go true = run-done {A = Part (List RomSet)} x (stop 2 [])
-      go false = refl
 
   -- the items, with the walk w
   itemsBy : Part (List RomSet) → Items

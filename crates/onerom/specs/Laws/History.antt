@@ -13,7 +13,7 @@ use Rattle.info.specs.Reads.{range, byte}
 use Rattle.info.specs.Laws.History.{count-step, count-fits}
 use Rattle.c_board.specs.Board.{addressFrom}
 use Rattle.c_report.specs.declared.OneromReport.{OneromReport}
-use Rattle.c_report.specs.Report.{boardIn}
+use Rattle.c_handed.specs.Handed.{boardIn}
 use Rattle.c_reads.specs.Reads.{dataCall, byteCall}
 
 -- a call of `onerom_read_rom_set_data`, or of a byte read; all that is lent but the count, and of the buffer its length

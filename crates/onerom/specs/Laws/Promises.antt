@@ -19,8 +19,8 @@ use Rattle.info.specs.Reads.{RomRead, range, byte, shownByte, storedP, finished
 use Rattle.byte_reads.specs.declared.ByteRead.{ByteRead}
 use Rattle.byte_reads.specs.Calls.{byteOf}
 use Rattle.info.specs.Laws.History.{refused-changes-nothing}
-use Rattle.fw_parser.specs.declared.Settings.{Settings}
-use Rattle.fw_parser.specs.declared.SdrrInfo.{SdrrInfo}
+use Rattle.sdrr_info.specs.declared.Settings.{Settings}
+use Rattle.sdrr_info.specs.declared.SdrrInfo.{SdrrInfo}
 use Rattle.fw_parser.specs.Opening.{Opened, refused, opening, setRowsLeft, romRowsLeft}
 use Rattle.fw_parser.specs.Reply.{openingReply}
 use Rattle.cut_short.specs.ReadAfter.{lentOf, readAfter}
@@ -29,8 +29,9 @@ use Rattle.cut_short.specs.Laws.Proof.{demand3, refused-refuses}
 use Rattle.c_board.specs.Board.{addressFrom}
 use Rattle.c_board.specs.Value.{valueAfter}
 use Rattle.c_report.specs.declared.OneromReport.{OneromReport}
-use Rattle.c_report.specs.Report.{reportOut, boardIn}
-use Rattle.c_report.specs.Laws.{handed-back}
+use Rattle.c_report.specs.Report.{reportOut}
+use Rattle.c_handed.specs.Handed.{boardIn}
+use Rattle.c_handed.specs.Laws.{handed-back}
 use Rattle.c_open.specs.Opening.{openCall, openingOut}
 use Rattle.c_reads.specs.Reads.{dataCall, byteCall}
 

@@ -61,15 +61,16 @@ use Rattle.pins.specs.Pins.{pinsP}
 use Rattle.pins.specs.declared.PinsItem.{PinsItem}
 use Rattle.pins.proofs.PinsItem as P
 use Rattle.pins.proofs.PinsItem.Laws as P′
-use Rattle.records.specs.Looked.{lookP}
-use Rattle.records.specs.Code.{sourceOf, recordsOf}
+use Rattle.sets_source.specs.Looked.{lookP}
+use Rattle.sets_source.specs.Code.{sourceOf}
+use Rattle.records.specs.Code.{recordsOf}
 use Rattle.records.specs.declared.Window.{Window}
-use Rattle.records.specs.declared.SetsSource.{SetsSource}
+use Rattle.sets_source.specs.declared.SetsSource.{SetsSource}
 use Rattle.records.specs.declared.Records.{Records}
 use Rattle.records.proofs.Window as T
 use Rattle.records.proofs.Window.Laws as T′
-use Rattle.records.proofs.SetsSource as O
-use Rattle.records.proofs.SetsSource.Laws as O′
+use Rattle.sets_source.proofs.SetsSource as O
+use Rattle.sets_source.proofs.SetsSource.Laws as O′
 use Rattle.records.proofs.Records as R
 use Rattle.records.proofs.Records.Laws as R′
 use Rattle.records.proofs.string_at as string

@@ -1,0 +1,53 @@
+use borrow.Author.Needs.{needs}
+use Rattle.judge_walk.proofs.Steps.{info-type, info-state, info-good}
+use Rattle.judge_walk.proofs.judge_rom_info.Statement.{statement}
+use Rattle.judge_walk.proofs.judge_rom_info.Tie as tie
+
+u8-at-requires : tie.Need-u8-at-requires
+u8-at-requires c κs = search needs
+
+returns : tie.Need-returns
+returns c = info-type _ _ (c .before .u8-at .ensures) (c .if1 .taken)
+
+u8-at-requires-2 : tie.Need-u8-at-requires-2
+u8-at-requires-2 c κs = search needs
+
+u8-at-requires-3 : tie.Need-u8-at-requires-3
+u8-at-requires-3 c κs = search needs
+
+either-requires : tie.Need-either-requires
+either-requires c κs = search needs
+
+u8-at-requires-4 : tie.Need-u8-at-requires-4
+u8-at-requires-4 c κs = search needs
+
+either-requires-2 : tie.Need-either-requires-2
+either-requires-2 c κs = search needs
+
+returns-2 : tie.Need-returns-2
+returns-2 c =
+    let e = c .before in
+    let l = e .before .before in
+    let d = l .before .before .before in
+    info-state _ _ (d .before .u8-at .ensures) (d .if1 .left) (e .either2 .result) (rw (e .either2 .ensures, e .before .u8-at4 .ensures, l .either .ensures, l .before .u8-at3 .ensures, l .before .before .u8-at2 .ensures)) (c .if2 .taken)
+
+returns-3 : tie.Need-returns-3
+returns-3 c =
+    let e = c .before in
+    let l = e .before .before in
+    let d = l .before .before .before in
+    info-good _ _ (d .before .u8-at .ensures) (d .if1 .left) (e .either2 .result) (rw (e .either2 .ensures, e .before .u8-at4 .ensures, l .either .ensures, l .before .u8-at3 .ensures, l .before .before .u8-at2 .ensures)) (c .if2 .left)
+
+pub judge-rom-info-spec : {M : Type 1} → statement M
+judge-rom-info-spec =
+    tie.close
+    (tie.spec
+    u8-at-requires
+    returns
+    u8-at-requires-2
+    u8-at-requires-3
+    either-requires
+    u8-at-requires-4
+    either-requires-2
+    returns-2
+    returns-3)

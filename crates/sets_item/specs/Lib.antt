@@ -1,0 +1,3 @@
+pub mod Sets
+pub mod Code
+pub mod Laws

@@ -1,0 +1,3 @@
+pub mod Looked
+pub mod Code
+pub mod Laws

@@ -1,12 +1,13 @@
 -- One pin set, and pins set one after the other.
 -- Assumes nothing.
-use Prim.Native.Nat.{ℕ, suc, _+_, _*_, _-_, _/_, _%_, _^_, _≤_, _<_}
+use Prim.Native.Nat.{ℕ, zero, suc, max, min, _+_, _*_, _-_, _/_, _%_, _^_, _≤_, _<_}
 use native.Mathlib.Nat.{mod-lt, add-zero, pow-suc, mul-le-mul-right, le-of-suc-le-suc}
 use native.Mathlib.Omega.{arith}
 use mathlib.Core.Path.{_≡_, refl, sym, ap, _∙_}
 use mathlib.Core.Bool.{Bool, true, false}
 use mathlib.Core.List.{List, [], _∷_}
-use lib.Bits.{bitAnd, bitOr, and-block, and-mask, and-le-l, and-zero-r, or-add-and, or-lt}
+use lib.Arith.{bin-ind}
+use lib.Bits.{bitAnd, bitOr, bitXor, and-block, and-mask, and-le-l, and-zero-r, and-step, and-self, or-step, or-zero-l, or-add-and, or-lt, xor-zero-l, xor-zero-r, xor-self, xor-add-and}
 use lib.Dec.{ltb, eqb}
 use lib.Pow.{split, pow-add, pow-pos, pow-lt, shl-shr, ones-split, ones-lt, high}
 use borrow.Author.Tests.{ltb-true, ltb-false, eqb-true, eqb-false, lt-ltb, ne-eqb}
@@ -15,6 +16,50 @@ use Rattle.demangle.specs.Bits.{bitAt, takenBit}
 use Rattle.demangle.specs.Laws.{taken-lt}
 use Rattle.base_zero.specs.BaseZero.{lowered}
 use Rattle.pin_words.specs.Code.{onPin, onPins, allHigh, limit}
+
+-- ---- a bit set, then taken off where its level is low
+
+or-half : (a b : ℕ) → (bitOr a b / 2 ≡ bitOr (a / 2) (b / 2)) × (bitOr a b % 2 ≡ max (a % 2) (b % 2))
+or-half a b =
+    let s = or-step a b in
+    let p : a % 2 < 2 = mod-lt a (omega arith) in
+    let q : b % 2 < 2 = mod-lt b (omega arith) in
+    (omega arith, omega arith)
+
+-- what was set is there
+pub and-of-or : (a b : ℕ) → bitAnd (bitOr a b) b ≡ b
+and-of-or a =
+    bin-ind (λ (n : ℕ). (b : ℕ) → bitAnd (bitOr n b) b ≡ b) (λ b. ap (λ (x : ℕ). bitAnd x b) (or-zero-l b) ∙ and-self b)
+    (λ n ih b.
+    let s = and-step (bitOr n b) b in
+    let h = or-half n b in
+    let i : bitAnd (bitOr n b / 2) (b / 2) ≡ b / 2 = ap (λ (x : ℕ). bitAnd x (b / 2)) (h .0) ∙ ih (b / 2) in
+    let r = h .1 in
+    omega arith) a
+
+pub level-bits : (v q b : ℕ) → b < 2 → bitXor (bitOr v q) ((1 - b) * q) ≡ v - bitAnd v q + b * q
+level-bits v q b l = go b l
+  where
+    go : (b : ℕ) → b < 2 → bitXor (bitOr v q) ((1 - b) * q) ≡ v - bitAnd v q + b * q
+    go zero h =
+        let one : (1 - 0) * q ≡ q = omega arith in
+        let x = xor-add-and (bitOr v q) q in
+        let w = and-of-or v q in
+        let s = or-add-and v q in
+        let u = and-le-l v q in
+        ap (λ (y : ℕ). bitXor (bitOr v q) y) one ∙ omega arith
+    go (suc zero) h =
+        let none : (1 - 1) * q ≡ 0 = omega arith in
+        let s = or-add-and v q in
+        let u = and-le-l v q in
+        ap (λ (y : ℕ). bitXor (bitOr v q) y) none ∙ xor-zero-r (bitOr v q) ∙ omega arith
+    go (suc (suc n)) h = absurd (omega arith)
+
+-- the other level
+pub other-level : (b : ℕ) → b < 2 → bitXor b 1 ≡ 1 - b
+other-level zero h = xor-zero-l 1
+other-level (suc zero) h = xor-self 1
+other-level (suc (suc n)) h = absurd (omega arith)
 
 -- ---- one pin
 

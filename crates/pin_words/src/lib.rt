@@ -20,7 +20,7 @@ fn put_at(v: u32, pin: u8, b: u32) -> u32
     requires { ⌜ (v < 65536) × (pin < 16) × (b < 2) ⌝ }
     ensures { λ r. ⌜ r ≡ onPin v pin b ⌝ }
 {
-    v - (v & (1 << pin)) + (b << pin)
+    (v | (1 << pin)) ^ ((b ^ 1) << pin)
 }
 
 // Pin of v at level b; a pin past the sixteen is left out.
@@ -50,7 +50,7 @@ fn pin_bit(top: u32, pin: u8) -> u32
 // What a level takes off a bit that is set: the bit where it is low.
 fn low_bit(bit: u32, b: u32) -> u32
     requires { ⌜ b < 2 ⌝ }
-    ensures { λ r. ⌜ r + b * bit ≡ bit ⌝ }
+    ensures { λ r. ⌜ r ≡ (1 - b) * bit ⌝ }
 {
     if b == 0 { bit } else { 0 }
 }
@@ -60,7 +60,7 @@ fn with_level(v: u32, bit: u32, b: u32) -> u32
     requires { ⌜ b < 2 ⌝ }
     ensures { λ r. ⌜ r ≡ v - bitAnd v bit + b * bit ⌝ }
 {
-    (v | bit) - low_bit(bit, b)
+    (v | bit) ^ low_bit(bit, b)
 }
 
 // Bit i of the word on a pin, which is lowered by m; with one test of the pin instead of two. The code goes by top, which is made once for

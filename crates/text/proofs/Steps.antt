@@ -15,9 +15,9 @@ use Rattle.window.specs.Window.{canRead}
 use Rattle.window.specs.Laws.{inside-true, true-inside, past-false, part}
 use Rattle.prog.specs.Prog.{run}
 use Rattle.utf8.specs.Utf8.{isUtf8}
-use Rattle.text.specs.Text.{acceptedText, refusedText, partOf, hasNul, beforeNul, judged, textP}
+use Rattle.text.specs.Text.{acceptedText, refusedText, bytesOf, partOf, hasNul, beforeNul, judged, textP}
 use Rattle.text.specs.Laws.Nul.{before-shorter, before-all}
-use Rattle.text.specs.Laws.Chunks.{restP, chunkAfter, text-start, chunks-none, chunks-ended, chunks-found, chunks-next, part-inside}
+use Rattle.text.specs.Laws.Chunks.{restP, chunkAfter, text-start, chunks-none, chunks-ended, chunks-found, chunks-next, part-inside, text-accepted}
 use Rattle.text.specs.declared.Text.{Text as Str}
 
 -- the search for a NUL: where it ends, where it finds one, and where it goes on
@@ -38,21 +38,45 @@ module _ (s : List ℕ) (i : ℕ) where
 pub part-held : (x : List ℕ) (t : Str) → t .offset + t .length ≤ length x → take (t .offset + t .length - t .offset) (drop (t .offset) x) ≡ partOf x t
 part-held x t h = part (t .offset) (t .length) x ∙ sym (part-inside x t h)
 
--- a string whose NUL was found: accepted, or not UTF-8
-module _ (x : List ℕ) (offset n : ℕ) (inside : offset + n ≤ length x) (s : List ℕ) (e : s ≡ partOf x (acceptedText offset n)) where
-  held : s ≡ take n (drop offset x)
-  held = e ∙ part-inside x (acceptedText offset n) inside
+-- a string whose NUL was found, as the code has its part: accepted, or not UTF-8
+module _ (x : List ℕ) (offset n : ℕ) (inside : offset + n ≤ length x) where
+  abbrev cut : List ℕ
+  cut = take (offset + n - offset) (drop offset x)
 
-  pub judged-good : true ≡ isUtf8 s → acceptedText offset n ≡ judged offset (take n (drop offset x))
+  pub judged-good : true ≡ isUtf8 cut → judged offset (take n (drop offset x)) ≡ acceptedText offset n
   unfolding judged
   judged-good h =
       let full : length (take n (drop offset x)) ≡ n = length-take-le n (drop offset x) (simp length-drop (omega arith)) in
-      let u : isUtf8 (take n (drop offset x)) ≡ true = sym (h ∙ ap isUtf8 held) in
+      let u : isUtf8 (take n (drop offset x)) ≡ true = sym (h ∙ ap isUtf8 (part offset n x)) in
       rw (u, full)
 
-  pub judged-bad : false ≡ isUtf8 s → refusedText 21 ≡ judged offset (take n (drop offset x))
+  pub judged-bad : false ≡ isUtf8 cut → judged offset (take n (drop offset x)) ≡ refusedText 21
   unfolding judged
-  judged-bad h = let u : isUtf8 (take n (drop offset x)) ≡ false = sym (h ∙ ap isUtf8 held) in rw u
+  judged-bad h = let u : isUtf8 (take n (drop offset x)) ≡ false = sym (h ∙ ap isUtf8 (part offset n x)) in rw u
+
+-- a part and a number handed back for one string are those of another that equals it
+pub handed-back : (x : List ℕ) {bytes : List ℕ} {number : ℕ} (t u : Str) → (bytes ≡ bytesOf x t) × (number ≡ t .number) → t ≡ u → (bytes ≡ bytesOf x u) × (number ≡ u .number)
+handed-back x t u h e = (h .0 ∙ ap (bytesOf x) e, h .1 ∙ ap (λ (s : Str). s .number) e)
+
+-- and of an accepted string they make it whole
+pub made-whole : (x : List ℕ) (base pointer : ℕ) (bytes : List ℕ) → bytes ≡ bytesOf x (run (textP base pointer) x) → run (textP base pointer) x .number ≡ 0
+    → record { number = 0; offset = pointer - base; length = length bytes } ≡ run (textP base pointer) x
+made-whole x base pointer bytes e h =
+    let t = run (textP base pointer) x in
+    let a = text-accepted x base pointer h in
+    let l : length bytes ≡ t .length = ap length e ∙ length-take-le (t .length) (drop (t .offset) x) (simp length-drop (let i = a .inside in omega arith)) in
+    ap (λ (n : ℕ). record { number = n; offset = pointer - base; length = length bytes }) (sym h)
+    ∙ ap (λ (o : ℕ). record { number = t .number; offset = o; length = length bytes }) (sym (a .starts))
+    ∙ ap (λ (n : ℕ). record { number = t .number; offset = t .offset; length = n }) l
+
+-- it is short, and its pointer is not below base
+pub part-short : (x : List ℕ) (base pointer : ℕ) (bytes : List ℕ) → bytes ≡ bytesOf x (run (textP base pointer) x) → run (textP base pointer) x .number ≡ 0
+    → (base ≤ pointer) × (length bytes < 1024)
+part-short x base pointer bytes e h =
+    let a = text-accepted x base pointer h in
+    let s = a .short in
+    let l = ap (λ (t : Str). t .length) (made-whole x base pointer bytes e h) in
+    (a .from, omega arith)
 
 -- what is known where n bytes are read: so many chunks are left, and they give the whole's answer
 pub record Rest (x : List ℕ) (base pointer n : ℕ) : Type 0 where

@@ -4,7 +4,7 @@ ghost use Prim.Native.Nat.{_+_, _≤_};
 ghost use lib.ListN.{length, take, drop};
 ghost use Rattle.window.specs.Window.{canRead};
 ghost use Rattle.prog.specs.Prog.{run};
-ghost use Rattle.text.specs.Text.{refusedText, partOf, beforeNul, judged, textP};
+ghost use Rattle.text.specs.Text.{refusedText, bytesOf, partOf, beforeNul, judged, textP};
 
 // A string is read in chunks of 64 bytes, at most 1,024.
 const CHUNK: usize = 64;
@@ -54,41 +54,66 @@ fn refuse(number: u8) -> Text
     }
 }
 
-// A string whose NUL was found, of n bytes.
-fn judge(image: &[u8], offset: u32, n: u32) -> Text
-    requires { ⌜ offset + n ≤ length (now image) ⌝ }
-    ensures { λ r. ⌜ r ≡ judged offset (take n (drop offset (now (image .entry)))) ⌝ }
+// An empty part, and the refusal's number in the lent word.
+fn no_part<'a>(image: &'a [u8], refusal: u8, number: &mut u8) -> &'a [u8]
+    ensures part { λ r. ⌜ now r ≡ bytesOf (now (image .entry)) (refusedText refusal) ⌝ }
+    ensures number { λ _. ⌜ now (number .exit) ≡ refusal ⌝ }
 {
-    let text = Text {
-        number: 0,
-        offset,
-        length: n,
-    };
-    if utf8::is_utf8(string_part(image, text)) {
-        return text;
-    }
-    refuse(21)
+    *number = refusal;
+    &image[..0]
 }
 
-// The string at a pointer, chunk by chunk: each must be wholly readable, and the first NUL ends it.
-pub fn read_string_at_ptr(image: &[u8], base: u32, ptr: u32) -> Text
-    ensures { λ r. ⌜ r ≡ run (textP base ptr) (now (image .entry)) ⌝ }
+// A string whose NUL was found, of n bytes from an offset on.
+fn judge<'a>(image: &'a [u8], offset: usize, n: usize, number: &mut u8) -> &'a [u8]
+    requires { ⌜ offset + n ≤ length (now image) ⌝ }
+    ensures part { λ r. ⌜ now r ≡ bytesOf (now (image .entry)) (judged offset (take n (drop offset (now (image .entry))))) ⌝ }
+    ensures number { λ _. ⌜ now (number .exit) ≡ judged offset (take n (drop offset (now (image .entry)))) .number ⌝ }
+{
+    let part = &image[offset..offset + n];
+    if utf8::is_utf8(part) {
+        *number = 0;
+        return part;
+    }
+    no_part(image, 21, number)
+}
+
+// The string at a pointer, chunk by chunk: each must be wholly readable, and the first NUL ends it. Its part of the image, which is empty where
+// the string is refused, and its number in the lent word.
+pub fn read_string<'a>(image: &'a [u8], base: u32, ptr: u32, number: &mut u8) -> &'a [u8]
+    ensures part { λ r. ⌜ now r ≡ bytesOf (now (image .entry)) (run (textP base ptr) (now (image .entry))) ⌝ }
+    ensures number { λ _. ⌜ now (number .exit) ≡ run (textP base ptr) (now (image .entry)) .number ⌝ }
 {
     if ptr < base {
-        return refuse(3);
+        return no_part(image, 3, number);
     }
-    let offset = ptr - base;
+    let offset = (ptr - base) as usize;
     let mut n: usize = 0;
     while n < LONGEST {
         if !window::can_read(image, base, ptr as u64 + n as u64, CHUNK) {
-            return refuse(2);
+            return no_part(image, 2, number);
         }
-        let at = offset as usize + n;
+        let at = offset + n;
         let found = before_nul(&image[at..at + CHUNK]);
         if found < CHUNK {
-            return judge(image, offset, (n + found) as u32);
+            return judge(image, offset, n + found, number);
         }
         n += CHUNK;
     }
-    refuse(20)
+    no_part(image, 20, number)
+}
+
+// The string at a pointer as a report or a row holds it: where its part stands in the image.
+pub fn read_string_at_ptr(image: &[u8], base: u32, ptr: u32) -> Text
+    ensures { λ r. ⌜ r ≡ run (textP base ptr) (now (image .entry)) ⌝ }
+{
+    let mut number = 0;
+    let part = read_string(image, base, ptr, &mut number);
+    if number != 0 {
+        return refuse(number);
+    }
+    Text {
+        number: 0,
+        offset: ptr - base,
+        length: part.len() as u32,
+    }
 }

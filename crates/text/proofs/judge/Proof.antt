@@ -1,25 +1,47 @@
 use native.Mathlib.Omega.{arith}
-use mathlib.Core.Path.{_∙_, sym}
+use mathlib.Core.Path.{_∙_, refl, sym}
 use borrow.Author.Needs.{needs}
-use Rattle.text.proofs.Steps.{judged-good, judged-bad}
+use Rattle.window.specs.Laws.{part}
+use Rattle.text.proofs.Steps.{judged-good, judged-bad, handed-back}
 use Rattle.text.proofs.judge.Statement.{statement}
 use Rattle.text.proofs.judge.Tie as tie
 
-string-part-requires : tie.Need-string-part-requires
-string-part-requires c κs = search needs
+add-part : tie.Need-add-part
+add-part c = search needs
+
+sub-part : tie.Need-sub-part
+sub-part c = search needs
+
+part-part-start : tie.Need-part-part-start
+part-part-start c = search needs
+
+part-part-end : tie.Need-part-part-end
+part-part-end c = search needs
 
 is-utf8-requires : tie.Need-is-utf8-requires
 is-utf8-requires c κs = search needs
 
 returns : tie.Need-returns
-returns c = judged-good _ _ _ (omega arith) _ (c .before .before .string-part .ensures) (sym (c .if1 .taken) ∙ c .before .is-utf8 .ensures)
+returns c =
+    let a = c .before .before .before .before .args in
+    handed-back _ _ _ (part (a .offset) (a .n) (a .image .now), refl) (sym (judged-good _ _ _ (omega arith) (sym (c .if1 .taken) ∙ c .before .is-utf8 .ensures)))
 
-refuse-requires : tie.Need-refuse-requires
-refuse-requires c κs = search needs
+no-part-requires : tie.Need-no-part-requires
+no-part-requires c κs = search needs
 
 returns-2 : tie.Need-returns-2
-returns-2 c = c .refuse .ensures ∙ judged-bad _ _ _ (omega arith) _ (c .before .before .before .string-part .ensures) (sym (c .before .if1 .left) ∙ c .before .before .is-utf8 .ensures)
+returns-2 c =
+    handed-back _ _ _ (c .no-part .ensures) (sym (judged-bad _ _ _ (omega arith) (sym (c .before .before .if1 .left) ∙ c .before .before .before .is-utf8 .ensures)))
 
 pub judge-spec : {M : Type 1} → statement M
 judge-spec =
-    tie.close (tie.spec string-part-requires is-utf8-requires returns refuse-requires returns-2)
+    tie.close
+    (tie.spec
+    add-part
+    sub-part
+    part-part-start
+    part-part-end
+    is-utf8-requires
+    returns
+    no-part-requires
+    returns-2)

@@ -1,138 +1,37 @@
-use Prim.Native.Nat.{_+_, _-_, _≤_}
+use Prim.Native.Nat.{_≤_, _<_}
 use native.Mathlib.Omega.{arith}
-use mathlib.Core.Path.{_≡_, _∙_, sym}
-use mathlib.Core.Bool.{true}
+use mathlib.Core.Path.{_∙_, sym, ap}
 use lib.ListN.{length}
-use borrow.Author.Needs.{needs}
-use borrow.Author.Tests.{not-true, not-false}
-use Rattle.window.specs.Window.{canRead}
-use Rattle.text.specs.Laws.Chunks.{text-below}
-use Rattle.text.proofs.Steps.{Rest, rest-start, rest-full, rest-refused, rest-fits, rest-judged, rest-again}
+use Rattle.text.specs.Text.{refusedText}
+use Rattle.text.specs.Laws.Chunks.{text-refused}
+use Rattle.text.proofs.Steps.{made-whole, part-short}
 use Rattle.text.proofs.read_string_at_ptr.Statement.{statement}
 use Rattle.text.proofs.read_string_at_ptr.Tie as tie
 
-abbrev Inv-loop : tie.InvT-loop
-Inv-loop image base ptr offset n₀ n = (n ≤ 1024) × Rest image base ptr n
+read-string-requires : tie.Need-read-string-requires
+read-string-requires c κs = tt
 
-abbrev μ-loop : tie.MeasureT-loop
-μ-loop image base ptr offset n₀ n = 1024 - n
+refuse-requires : tie.Need-refuse-requires
+refuse-requires c κs = tt
 
-refuse-requires : tie.Need-refuse-requires Inv-loop μ-loop
-refuse-requires c κs = search needs
+returns : tie.Need-returns
+returns c =
+    let e = c .before .before .read-string .ensures .1 in
+    c .refuse .ensures ∙ ap refusedText e ∙ sym (text-refused _ _ _ (λ z. c .before .if1 .taken (e ∙ z)))
 
-returns : tie.Need-returns Inv-loop μ-loop
-returns c = c .refuse .ensures ∙ sym (text-below _ _ _ (omega arith))
+-- behind the test, the string is accepted
+accepted : (c : tie.Else1) → (c .before .before .before .before .args .base ≤ c .before .before .before .before .args .ptr) × (length (c .before .read-string .result .now) < 1024)
+accepted c = part-short _ _ _ _ (c .before .read-string .ensures .0) (sym (c .before .read-string .ensures .1) ∙ c .if1 .left)
 
-loop-holds : tie.Need-loop-holds Inv-loop μ-loop
-loop-holds c = (omega arith, rest-start _ _ _ (omega arith))
+sub-t10 : tie.Need-sub-t10
+sub-t10 c = accepted c .0
 
-add-can-read : tie.Need-add-can-read Inv-loop μ-loop
-add-can-read c = omega arith
+cast-t12 : tie.Need-cast-t12
+cast-t12 c = record { fits = omega (arith, accepted c .1) }
 
-can-read-requires : tie.Need-can-read-requires Inv-loop μ-loop
-can-read-requires c κs = search needs
-
-refuse-requires-2 : tie.Need-refuse-requires-2 Inv-loop μ-loop
-refuse-requires-2 c κs = search needs
-
-returns-2 : tie.Need-returns-2 Inv-loop μ-loop
-returns-2 c =
-    let l = c .before .before .before .before in
-    c .refuse2 .ensures
-    ∙ rest-refused _ _ _ _ (l .loop .inv .1) (omega arith) (sym (c .before .before .can-read .ensures) ∙ not-true _ (c .before .if2 .taken))
-
--- past the test, the chunk can be read
-readable : (c : tie.Else2 Inv-loop μ-loop)
-    → canRead (c .before .before .before .before .before .before .args .image .now) (c .before .before .before .before .before .before .args .base)
-    (c .before .before .before .before .before .before .args .ptr + c .before .before .before .loop .n) 64 ≡ true
-readable c = sym (c .before .can-read .ensures) ∙ not-false _ (c .if2 .left)
-
--- and lies in the image
-fits : (c : tie.Else2 Inv-loop μ-loop)
-    → c .before .before .before .before .before .before .args .ptr - c .before .before .before .before .before .before .args .base + c .before .before .before .loop .n + 64
-    ≤ length (c .before .before .before .before .before .before .args .image .now)
-fits c = rest-fits _ _ _ _ (c .before .before .before .loop .inv .1) (omega arith) (readable c)
-
-cast-at : tie.Need-cast-at Inv-loop μ-loop
-cast-at c = omega arith
-
-add-at : tie.Need-add-at Inv-loop μ-loop
-add-at c = omega arith
-
-add-before-nul : tie.Need-add-before-nul Inv-loop μ-loop
-add-before-nul c = omega arith
-
-sub-before-nul : tie.Need-sub-before-nul Inv-loop μ-loop
-sub-before-nul c = omega arith
-
-part-before-nul-start : tie.Need-part-before-nul-start Inv-loop μ-loop
-part-before-nul-start c = omega arith
-
-part-before-nul-end : tie.Need-part-before-nul-end Inv-loop μ-loop
-part-before-nul-end c = omega (arith, fits c)
-
-before-nul-requires : tie.Need-before-nul-requires Inv-loop μ-loop
-before-nul-requires c κs = search needs
-
-add-judge : tie.Need-add-judge Inv-loop μ-loop
-add-judge c = omega arith
-
-cast-judge : tie.Need-cast-judge Inv-loop μ-loop
-cast-judge c = omega arith
-
-judge-requires : tie.Need-judge-requires Inv-loop μ-loop
-judge-requires c κs = omega (arith, fits (c .before .before .before))
-
-returns-3 : tie.Need-returns-3 Inv-loop μ-loop
-returns-3 c =
-    let d = c .before .before .before .before in
-    c .judge .ensures
-    ∙ rest-judged _ _ _ _ (d .before .before .before .loop .inv .1) (omega arith) (readable d) _ (c .before .before .before-nul .ensures) (omega arith)
-
-add-n : tie.Need-add-n Inv-loop μ-loop
-add-n c = omega arith
-
-loop-less : tie.Need-loop-less Inv-loop μ-loop
-loop-less c = omega arith
-
-loop-again : tie.Need-loop-again Inv-loop μ-loop
-loop-again c =
-    let d = c .before .before .before in
-    let r = d .before .before .before .loop .inv .1 in
-    (omega (arith, r .whole), rest-again _ _ _ _ r (omega arith) (readable d) _ (c .before .before-nul .ensures) (omega arith))
-
-refuse-requires-3 : tie.Need-refuse-requires-3 Inv-loop μ-loop
-refuse-requires-3 c κs = search needs
-
-returns-4 : tie.Need-returns-4 Inv-loop μ-loop
-returns-4 c = c .refuse3 .ensures ∙ rest-full _ _ _ _ (c .before .before .loop .inv .1) (omega arith)
+returns-2 : tie.Need-returns-2
+returns-2 c = made-whole _ _ _ _ (c .before .read-string .ensures .0) (sym (c .before .read-string .ensures .1) ∙ c .if1 .left)
 
 pub read-string-at-ptr-spec : {M : Type 1} → statement M
 read-string-at-ptr-spec =
-    tie.close
-    (tie.spec
-    Inv-loop
-    μ-loop
-    refuse-requires
-    returns
-    loop-holds
-    add-can-read
-    can-read-requires
-    refuse-requires-2
-    returns-2
-    cast-at
-    add-at
-    add-before-nul
-    sub-before-nul
-    part-before-nul-start
-    part-before-nul-end
-    before-nul-requires
-    add-judge
-    cast-judge
-    judge-requires
-    returns-3
-    add-n
-    loop-less
-    loop-again
-    refuse-requires-3
-    returns-4)
+    tie.close (tie.spec read-string-requires refuse-requires returns sub-t10 cast-t12 returns-2)

@@ -7,7 +7,7 @@ ghost use Rattle.runtime_info.specs.Runtime.{runtimeOf};
 ghost use Rattle.runtime_info.specs.Words.{numberOf, wordsAfter};
 ghost use Rattle.text.specs.Text.{stringCall, partAfter};
 ghost use Rattle.c_board.specs.Value.{valueAfter};
-ghost use Rattle.c_calls.specs.Board.{mangleCall, demangleCall};
+ghost use Rattle.c_mangle.specs.Board.{mangleCall, demangleCall};
 
 #[no_mangle]
 pub extern "C" fn onerom_runtime(record: &[u8], ram_base: u32, words: &mut [u32; 25]) -> u32
@@ -22,7 +22,7 @@ pub extern "C" fn onerom_string(image: &[u8], base: u32, pointer: u32, part: &mu
     ensures reply { λ r. ⌜ r ≡ stringCall base pointer (now (image .entry)) .number ⌝ }
     ensures part { λ r. ⌜ now (part .exit) ≡ partAfter (stringCall base pointer (now (image .entry))) (now (part .entry)) ⌝ }
 {
-    c_calls::string_call(image, base, pointer, part)
+    c_string::string_call(image, base, pointer, part)
 }
 
 #[no_mangle]
@@ -41,7 +41,7 @@ pub extern "C" fn onerom_mangle(
     ensures reply { λ r. ⌜ r ≡ mangleCall «pins_number» «rom_pins» (now (addr .entry)) (now (control .entry)) served (now («set_rows» .entry)) (now («rom_rows» .entry)) address (now (levels .entry)) .number ⌝ }
     ensures value { λ r. ⌜ now (value .exit) ≡ valueAfter r (mangleCall «pins_number» «rom_pins» (now (addr .entry)) (now (control .entry)) served (now («set_rows» .entry)) (now («rom_rows» .entry)) address (now (levels .entry)) .value) (now (value .entry)) ⌝ }
 {
-    c_calls::mangle_call(
+    c_mangle::mangle_call(
         pins_number,
         rom_pins,
         addr,
@@ -60,5 +60,5 @@ pub extern "C" fn onerom_demangle(pins_number: u8, data: &[u8; 8], byte: u8, val
     ensures reply { λ r. ⌜ r ≡ demangleCall «pins_number» (now («data» .entry)) byte .number ⌝ }
     ensures value { λ r. ⌜ now (value .exit) ≡ valueAfter r (demangleCall «pins_number» (now («data» .entry)) byte .value) (now (value .entry)) ⌝ }
 {
-    c_calls::demangle_call(pins_number, data, byte, value)
+    c_mangle::demangle_call(pins_number, data, byte, value)
 }

@@ -19,7 +19,7 @@ pub extern "C" fn onerom_get_rom_set_size(
     ensures reply { λ r. ⌜ r ≡ sizeCall served (now («set_rows» .entry)) set .number ⌝ }
     ensures value { λ r. ⌜ now (value .exit) ≡ valueAfter r (sizeCall served (now («set_rows» .entry)) set .value) (now (value .entry)) ⌝ }
 {
-    c_calls::size_call(served, set_rows, set, value)
+    c_sets::size_call(served, set_rows, set, value)
 }
 
 #[no_mangle]
@@ -34,7 +34,7 @@ pub extern "C" fn onerom_same_set(
     ensures reply { λ r. ⌜ r ≡ sameSet served (now («set_rows» .entry)) (now («rom_rows» .entry)) a b .number ⌝ }
     ensures value { λ r. ⌜ now (value .exit) ≡ valueAfter r (sameSet served (now («set_rows» .entry)) (now («rom_rows» .entry)) a b .value) (now (value .entry)) ⌝ }
 {
-    c_calls::same_call(served, set_rows, rom_rows, a, b, value)
+    c_sets::same_call(served, set_rows, rom_rows, a, b, value)
 }
 
 #[no_mangle]

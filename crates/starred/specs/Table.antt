@@ -23,7 +23,7 @@ use Rattle.governing.specs.Governing.{governing, governingSet0}
 use Rattle.info.specs.Lent.{mangledBy, mangleAddress, demangleByte}
 use Rattle.c_board.specs.Board.{pinsFrom}
 use Rattle.c_board.specs.Value.{valueAfter}
-use Rattle.c_calls.specs.Board.{mangleCall, demangleCall}
+use Rattle.c_mangle.specs.Board.{mangleCall, demangleCall}
 use Rattle.starred.specs.Inputs.{ramBase, recordR1, recordR2, recordR3, recordR4, flashBase, imageT1, imageT2, imageT3, pinsD1, pinsD2, pinsM1, pinsM2}
 
 pub data Case : Type 0 where

@@ -33,7 +33,8 @@ level-of-requires-5 : tie.Need-level-of-requires-5
 level-of-requires-5 c κs = search needs
 
 returns : tie.Need-returns
-returns c = cc
+returns c =
+    rw (c .level-of5 .ensures, c .before .level-of4 .ensures, c .before .before .level-of3 .ensures, c .before .before .before .level-of2 .ensures, c .before .before .before .before .level-of .ensures)
 
 pub levels-from-spec : {M : Type 1} → statement M
 levels-from-spec =

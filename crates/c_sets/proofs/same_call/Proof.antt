@@ -1,0 +1,26 @@
+use native.Mathlib.Omega.{arith}
+use mathlib.Core.Path.{_≡_}
+use Rattle.c_sets.proofs.Calls.{valued-refused, valued-given}
+use borrow.Author.Needs.{needs}
+use Rattle.c_sets.proofs.same_call.Statement.{statement}
+use Rattle.c_sets.proofs.same_call.Tie as tie
+
+same-set-requires : tie.Need-same-set-requires
+same-set-requires c κs = search needs
+
+cast-result : tie.Need-cast-result
+cast-result c = search needs
+
+returns : tie.Need-returns
+returns c =
+    let call = c .before .before .before .same-set in
+    valued-refused (call .result) _ (c .before .before .before .before .before .before .args .value .now) (call .ensures) (c .before .if1 .taken)
+
+returns-2 : tie.Need-returns-2
+returns-2 c =
+    let call = c .before .before .same-set in
+    let zero : call .result .number ≡ 0 = omega arith in
+    valued-given (call .result) _ (call .ensures) zero
+
+pub same-call-spec : {M : Type 1} → statement M
+same-call-spec = tie.close (tie.spec same-set-requires cast-result returns returns-2)

@@ -14,7 +14,7 @@ pub struct SdrrRuntimeInfoHeader {
 }
 
 // The record's head, or the number of its refusal.
-pub enum RuntimeHeader {
+pub(crate) enum RuntimeHeader {
     Head(SdrrRuntimeInfoHeader),
     Refused(u8),
 }
@@ -92,7 +92,7 @@ fn read_head(data: &[u8], ram_base: u32) -> SdrrRuntimeInfoHeader
     }
 }
 
-pub fn parse_and_validate_runtime_info(data: &[u8], ram_base: u32) -> RuntimeHeader
+pub(crate) fn parse_and_validate_runtime_info(data: &[u8], ram_base: u32) -> RuntimeHeader
     ensures { λ r. ⌜ r ≡ runtimeHeader (now («data» .entry)) «ram_base» ⌝ }
 {
     if data.len() < 20 {

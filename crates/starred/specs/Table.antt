@@ -10,7 +10,8 @@ use Rattle.runtime_info.specs.Words.{headWords, words060, words062, words063, w
 use Rattle.prog.specs.Prog.{run, answer as readAnswer}
 use Rattle.utf8.specs.Utf8.{classOf, lowAfter, highAfter, lacking, isUtf8}
 use Rattle.text.specs.Text.{hasNul, beforeNul, judged, chunksP, textP, stringCall, partAfter}
-use Rattle.types.specs.Types.{isHigh, romTypeNumber, romTypeOf}
+use Rattle.types.specs.Types.{isHigh, romTypeOf}
+use Rattle.type_numbers.specs.TypeNumbers.{romTypeNumber}
 use Rattle.demangle.specs.Bits.{bitAt, takenBit, gather}
 use Rattle.demangle.specs.Demangle.{allBelow, demangle}
 use Rattle.base_zero.specs.BaseZero.{leastOf, lowered, leastPin, loweredBy, baseZero}

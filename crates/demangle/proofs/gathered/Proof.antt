@@ -30,8 +30,7 @@ bit-of-requires c κs = search needs
 with-bit-requires : tie.Need-with-bit-requires Inv-loop μ-loop
 with-bit-requires c κs =
     let l = c .before .before .before .loop in
-    let a = c .before .before .before .before .before .args in
-    (omega arith, l .inv .1, rw (c .bit-of .ensures) (taken-lt (a .x) (getD (a .entries .now) (l .i) 0)))
+    (omega arith, l .inv .1, rw (c .bit-of .ensures) (taken-lt _ _))
 
 add-i : tie.Need-add-i Inv-loop μ-loop
 add-i c = search needs

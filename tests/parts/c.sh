@@ -24,7 +24,7 @@ test_c_example() {
 }
 
 test_rust_example() {
-    command -v rustc >/dev/null || { echo "Rust's example not run: there is no rustc"; return 0; }
+    needs rustc
     rustc --edition 2024 -D warnings -O -o target/example-rust examples/rust/board.rs -L target/staticlib -l static=onerom &&
         target/example-rust samples/rp2350.img >target/example-rust.out &&
         cmp target/example-rust.out tests/data/example.txt
@@ -32,6 +32,6 @@ test_rust_example() {
 
 # The sample boards are what their generator makes.
 test_samples() {
-    command -v python3 >/dev/null || { echo "samples not made anew: there is no python3"; return 0; }
+    needs python3
     python3 -B samples/make.py --check && python3 -B samples/example.py | cmp - tests/data/example.txt
 }

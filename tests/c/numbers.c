@@ -253,13 +253,14 @@ static void by_set_0(void) {
     sets[8 + ONEROM_SET_FIRST_ROM] = 1;
     r.rom_sets.served = 2;
     roms[7 + ONEROM_ROM_TYPE] = ONEROM_TYPE_ROM2704;
-    expect(onerom_read_rom_byte_raw(image, 2048, FLASH, CS0, r, sets, 16, roms, 14, 1, 1, 5, low, &count, &b) == 0 && b == 85, "set 1's own type is not looked at");
+#define READ() onerom_read_rom_byte_raw(image, 2048, FLASH, CS0, r, sets, 16, roms, 14, 1, 1, 5, low, &count, &b)
+    expect(READ() == 0 && b == 85, "set 1's own type is not looked at");
     roms[7 + ONEROM_ROM_TYPE] = ONEROM_TYPE_ROM2364;
     roms[ONEROM_ROM_TYPE] = ONEROM_TYPE_ROM2704;
-    expect(onerom_read_rom_byte_raw(image, 2048, FLASH, CS0, r, sets, 16, roms, 14, 1, 1, 5, low, &count, &b) == 75, "set 0's type is");
+    expect(READ() == 75, "set 0's type is");
     roms[ONEROM_ROM_TYPE] = ONEROM_TYPE_ROM2364;
     sets[ONEROM_SET_ROM_COUNT] = 2;
-    expect(onerom_read_rom_byte_raw(image, 2048, FLASH, CS0, r, sets, 16, roms, 14, 1, 1, 5, low, &count, &b) == 72, "so is its ROM count");
+    expect(READ() == 72, "so is its ROM count");
 }
 
 /* ---- what an opening shows */

@@ -8,13 +8,12 @@
 
 #include "onerom.h"
 
-#define SETS 255
-#define ROMS 4096
+/* rows for whatever a board may have */
+#define SET_WORDS (ONEROM_MAX_SETS * ONEROM_SET_WORDS)
+#define ROM_WORDS (ONEROM_MAX_ROMS * ONEROM_ROM_WORDS)
 
-static uint32_t set_rows[SETS * ONEROM_SET_WORDS];
-static uint32_t rom_rows[ROMS * ONEROM_ROM_WORDS];
-
-static const uint32_t flash_base = 0x08000000, cs0_base = 0x10000000, info_offset = 512;
+static uint32_t set_rows[SET_WORDS];
+static uint32_t rom_rows[ROM_WORDS];
 
 /* The whole file; the caller frees it. */
 static uint8_t *load(const char *path, size_t *len)
@@ -37,13 +36,13 @@ static uint8_t *load(const char *path, size_t *len)
 /* A set's name is that of its first ROM, a part of the image. */
 static void print_name(const uint8_t *image, const uint32_t *set)
 {
-    if (set[3] == 0)
+    if (set[ONEROM_SET_ROM_COUNT] == 0)
         return;
-    const uint32_t *rom = rom_rows + set[2] * ONEROM_ROM_WORDS;
-    if (rom[6] == 0)
-        printf(" %.*s", (int)rom[5], (const char *)image + rom[4]);
+    const uint32_t *rom = rom_rows + set[ONEROM_SET_FIRST_ROM] * ONEROM_ROM_WORDS;
+    if (rom[ONEROM_ROM_NAME_REASON] == 0)
+        printf(" %.*s", (int)rom[ONEROM_ROM_NAME_LENGTH], (const char *)image + rom[ONEROM_ROM_NAME_OFFSET]);
     else
-        printf(" (no name: %" PRIu32 ")", rom[6]);
+        printf(" (no name)");
 }
 
 static void print_same(uint32_t served)
@@ -51,7 +50,7 @@ static void print_same(uint32_t served)
     for (uint32_t a = 0; a < served; a++)
         for (uint32_t b = a + 1; b < served; b++) {
             uint32_t same = 0;
-            if (onerom_same_set(served, set_rows, SETS * ONEROM_SET_WORDS, rom_rows, ROMS * ONEROM_ROM_WORDS, a, b, &same) == 0 && same == 1)
+            if (onerom_same_set(served, set_rows, SET_WORDS, rom_rows, ROM_WORDS, a, b, &same) == ONEROM_ACCEPTED && same == 1)
                 printf("sets %" PRIu32 " and %" PRIu32 " are the same\n", a, b);
         }
 }
@@ -64,10 +63,9 @@ int main(int argc, char **argv)
         fprintf(stderr, "usage: board DUMP\n");
         return 1;
     }
-    struct onerom_opening o = onerom_open(image, len, flash_base, cs0_base, info_offset, set_rows, SETS * ONEROM_SET_WORDS,
-                                          rom_rows, ROMS * ONEROM_ROM_WORDS);
-    if (o.number != 0) {
-        fprintf(stderr, "refused %" PRIu32 "\n", o.number);
+    struct onerom_opening o = onerom_open(image, len, ONEROM_FLASH_BASE, ONEROM_CS0_BASE, ONEROM_INFO_OFFSET, set_rows, SET_WORDS, rom_rows, ROM_WORDS);
+    if (o.number != ONEROM_ACCEPTED) {
+        fprintf(stderr, "refused %" PRIu32 ": %s\n", o.number, onerom_reason(o.number));
         free(image);
         return 1;
     }
@@ -76,14 +74,14 @@ int main(int argc, char **argv)
     for (uint32_t i = 0; i < o.report.rom_sets.served; i++) {
         const uint32_t *set = set_rows + i * ONEROM_SET_WORDS;
         uint8_t front[4];
-        uint32_t number = onerom_read_rom_set_data(image, len, flash_base, cs0_base, o.report, set_rows,
-                                                   SETS * ONEROM_SET_WORDS, i, 0, front, sizeof front, &count);
-        printf("set %" PRIu32 ": %" PRIu32 " bytes, %" PRIu32 " ROMs,", i, set[1], set[3]);
+        uint32_t number = onerom_read_rom_set_data(image, len, ONEROM_FLASH_BASE, ONEROM_CS0_BASE, o.report, set_rows, SET_WORDS, i, 0,
+                                                   front, sizeof front, &count);
+        printf("set %" PRIu32 ": %" PRIu32 " bytes, %" PRIu32 " ROMs,", i, set[ONEROM_SET_SIZE], set[ONEROM_SET_ROM_COUNT]);
         print_name(image, set);
-        if (number == 0)
+        if (number == ONEROM_ACCEPTED)
             printf(", starts %02x %02x %02x %02x\n", front[0], front[1], front[2], front[3]);
         else
-            printf(", refused %" PRIu32 "\n", number);
+            printf(", refused %" PRIu32 ": %s\n", number, onerom_reason(number));
     }
     print_same(o.report.rom_sets.served);
     printf("%" PRIu32 " bytes read\n", count);

@@ -5,11 +5,11 @@
 
 mod onerom;
 
-use onerom::{Board, Refused, Settings};
+use onerom::{Board, MAX_ROMS, Refused, SET_FIRST_ROM, SET_ROM_COUNT, SET_SIZE, Settings};
 use std::process::ExitCode;
 
 fn list(image: &[u8]) -> Result<(), Refused> {
-    let mut board = Board::open(image, Settings::default(), 4096)?;
+    let mut board = Board::open(image, Settings::default(), MAX_ROMS)?;
     let h = board.report.header;
     println!("firmware {}.{}.{}", h.major, h.minor, h.patch);
     let served = board.report.rom_sets.served;
@@ -17,11 +17,11 @@ fn list(image: &[u8]) -> Result<(), Refused> {
         let row = board.set(i).expect("a served set has a row").to_vec();
         let mut front = [0; 4];
         let read = board.read(i, 0, &mut front);
-        let name = if row[3] == 0 { None } else { board.name(row[2]) };
-        print!("set {i}: {} bytes, {} ROMs, {}", row[1], row[3], name.unwrap_or("(no name)"));
+        let name = if row[SET_ROM_COUNT] == 0 { None } else { board.name(row[SET_FIRST_ROM]) };
+        print!("set {i}: {} bytes, {} ROMs, {}", row[SET_SIZE], row[SET_ROM_COUNT], name.unwrap_or("(no name)"));
         match read {
             Ok(()) => println!(", starts {:02x} {:02x} {:02x} {:02x}", front[0], front[1], front[2], front[3]),
-            Err(Refused(number)) => println!(", refused {number}"),
+            Err(refused) => println!(", {refused}"),
         }
     }
     for a in 0..served {
@@ -49,8 +49,8 @@ fn main() -> ExitCode {
     };
     match list(&image) {
         Ok(()) => ExitCode::SUCCESS,
-        Err(Refused(number)) => {
-            eprintln!("refused {number}");
+        Err(refused) => {
+            eprintln!("{refused}");
             ExitCode::FAILURE
         }
     }

@@ -1,7 +1,7 @@
 #!/usr/bin/env python3
 """The images of the two boards of crates/fw_parser/specs/Examples.antt, field by field.
 
-    python3 tests/model/boards.py            says whether Boards.antt holds these images
+    python3 tests/model/boards.py --check    says whether Examples.antt holds these images; it writes nothing
 """
 import os, re, struct
 

@@ -1,7 +1,8 @@
 #!/usr/bin/env python3
 """Makes the vectors of crates/vectors, and tests/data/runtime.txt, from the models beside this file.
 
-    python3 tests/model/make.py
+    python3 tests/model/make.py            writes them
+    python3 tests/model/make.py --check    says whether the files are what it makes
 
 A line of stdin: a letter for the kind, then numbers of eight hexadecimal digits, then bytes in hexadecimal. stdout has its answer, decimal.
     r RAM-base record        the runtime record: number, and the words of include/onerom.h where it is accepted
@@ -19,7 +20,7 @@ Rust (docs/ORACLE.md); where one of them differs from the models, this script st
 """
 import json, os, random, struct
 
-import mangle, oracle, records, runtime
+import files, mangle, oracle, records, runtime
 
 TOP = os.path.join(os.path.dirname(os.path.abspath(__file__)), "..", "..")
 B = 0x08000000
@@ -210,14 +211,9 @@ def main():
             answers += mangle.answer("g", (*given[:-1], levels, given[-1]))
         out.append((line("G", *given), answers))
     out += oracle.records_and_mangles()
-    crate = os.path.join(TOP, "crates/vectors")
-    with open(os.path.join(crate, "stdin"), "w") as i, open(os.path.join(crate, "stdout"), "w") as o:
-        for given, answer in out:
-            i.write(given + "\n")
-            o.write(" ".join(map(str, answer)) + (" \n" if given[0] == "G" else "\n"))
-    with open(os.path.join(TOP, "tests/data/runtime.txt"), "w") as o:
-        for s in shown:
-            o.write("%s|%s\n" % (s.hex(), "|".join(runtime.text(s))))
+    files.put("crates/vectors/stdin", "".join(given + "\n" for given, _ in out))
+    files.put("crates/vectors/stdout", "".join(" ".join(map(str, answer)) + (" \n" if given[0] == "G" else "\n") for given, answer in out))
+    files.put("tests/data/runtime.txt", "".join("%s|%s\n" % (s.hex(), "|".join(runtime.text(s))) for s in shown))
     print(len(out), "vectors;", len(shown), "for the program runtime")
 
 

@@ -1,7 +1,8 @@
 #!/usr/bin/env python3
 """Makes crates/boards/stdin and stdout: whole boards, their calls and their cuts, with the answers of opening.py.
 
-    python3 tests/model/make_boards.py
+    python3 tests/model/make_boards.py            writes them
+    python3 tests/model/make_boards.py --check    says whether the files are what it makes
 
 A record of stdin is its length and then, packed (see `packed`), ten words, the image and more, all little-endian.
     66  flash base, CS0 base, info offset, set words, ROM words, image length, calls, cuts, reach; the calls, the cuts (FFFFFFFF: every length)
@@ -14,12 +15,10 @@ A call is 16 bytes: kind, levels (five digits to base 3, CS1 the lowest), u16 le
 lent-vectors.xz are answers of another reader of document 01, the boards of oracle-sample.txt the Rust's; where one differs from opening.py, this
 script stops.
 """
-import os, struct
+import struct
 
-import cases, given, opening, oracle
+import cases, files, given, opening, oracle
 from opening import KINDS, NONE
-
-TOP = os.path.join(os.path.dirname(os.path.abspath(__file__)), "..", "..")
 
 
 def mix(a, n):
@@ -186,11 +185,8 @@ def main():
         for case in boards():
             case.run(out)
         print("%s: %d records, %d calls, %d cuts" % (name, out.records - records, out.calls - calls, out.cuts - cuts))
-    crate = os.path.join(TOP, "crates/boards")
-    with open(os.path.join(crate, "stdin"), "wb") as f:
-        f.write(b"".join(out.given))
-    with open(os.path.join(crate, "stdout"), "w") as f:
-        f.write("".join(line + "\n" for line in out.lines))
+    files.put("crates/boards/stdin", b"".join(out.given))
+    files.put("crates/boards/stdout", "".join(line + "\n" for line in out.lines))
     print(out.records, "records,", out.calls, "calls,", out.cuts, "cuts in all")
 
 

@@ -2,7 +2,7 @@
 
 # bench_part NAME
 bench_part() {
-    command -v python3 >/dev/null || { echo "bench's $1 not compared: there is no python3"; return 0; }
+    needs python3
     python3 -B tests/bench/check.py "$1"
 }
 

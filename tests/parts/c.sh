@@ -5,15 +5,35 @@ test_c_library() {
     [ -f target/staticlib/libonerom.a ]
 }
 
-test_c_calls() {
-    cc -std=c99 -Wall -Wextra -Werror -pedantic -Iinclude -o target/c-calls tests/c/calls.c target/staticlib/libonerom.a &&
-        [ "$(target/c-calls)" = ok ]
+# The library keeps nothing: it has code and constants, no memory of its own, and calls nobody else.
+test_c_library_has_no_state() {
+    needs nm
+    nm target/staticlib/libonerom.a >target/symbols && grep -q ' T onerom_open$' target/symbols &&
+        ! awk 'NF > 1 && $(NF - 1) !~ /^[TtRr]$/' target/symbols | grep .
 }
 
-# The header serves C++ too.
+# c_test NAME [ARGUMENT]: tests/c/NAME.c says ok
+c_test() {
+    cc -std=c99 -Wall -Wextra -Werror -pedantic -Iinclude -o "target/c-$1" "tests/c/$1.c" target/staticlib/libonerom.a &&
+        "target/c-$1" ${2:+"$2"} >"target/c-$1.out" && grep -qx ok "target/c-$1.out" || { cat "target/c-$1.out"; return 1; }
+}
+
+test_c_calls() {
+    c_test calls
+}
+
+# Every field of every struct, by name and by offset.
+test_c_fields() {
+    c_test fields
+}
+
+# Every constant, beside what the calls answer.
+test_c_numbers() {
+    c_test numbers
+}
+
 test_c_header_in_cpp() {
-    printf '#include "onerom.h"\nint main() { uint32_t w[ONEROM_RUNTIME_WORDS]; return (int)onerom_runtime(nullptr, 0, 0, w); }\n' >target/header.cpp &&
-        c++ -std=c++11 -Wall -Werror -Iinclude -c -o target/header.o target/header.cpp
+    c++ -std=c++11 -Wall -Wextra -Werror -pedantic -Wno-address -Iinclude -o target/c-cpp tests/c/header.cpp target/staticlib/libonerom.a && target/c-cpp
 }
 
 # The examples, on a sample board: C's and Rust's say the same.
@@ -24,14 +44,22 @@ test_c_example() {
 }
 
 test_rust_example() {
-    command -v rustc >/dev/null || { echo "Rust's example not run: there is no rustc"; return 0; }
+    needs rustc
     rustc --edition 2024 -D warnings -O -o target/example-rust examples/rust/board.rs -L target/staticlib -l static=onerom &&
         target/example-rust samples/rp2350.img >target/example-rust.out &&
         cmp target/example-rust.out tests/data/example.txt
 }
 
+# The same fields in Rust, on the board of the C test.
+test_rust_fields() {
+    needs rustc
+    c_test fields target/fields.img &&
+        rustc --edition 2024 -D warnings -o target/rust-fields tests/rust/fields.rs -L target/staticlib -l static=onerom &&
+        [ "$(target/rust-fields target/fields.img)" = ok ]
+}
+
 # The sample boards are what their generator makes.
 test_samples() {
-    command -v python3 >/dev/null || { echo "samples not made anew: there is no python3"; return 0; }
+    needs python3
     python3 -B samples/make.py --check && python3 -B samples/example.py | cmp - tests/data/example.txt
 }

@@ -1,6 +1,9 @@
-# A short run of the oracle (docs/ORACLE.md). Where the Rust's files or Debian's packages are not at hand it says so.
+# A short run of the oracle (docs/ORACLE.md).
 
 test_oracle() {
+    local lacking
     tests/oracle/run >target/oracle.log 2>&1 || { tail -n 25 target/oracle.log; return 1; }
-    grep '^oracle not run: ' target/oracle.log || grep -q '^no difference but those of the rules$' target/oracle.log
+    lacking=$(sed -n 's/^oracle not run: //p' target/oracle.log)
+    [ -z "$lacking" ] || left_out "$lacking"
+    grep -q '^no difference but those of the rules$' target/oracle.log
 }

@@ -110,7 +110,7 @@ struct CHeader {
 
 #[repr(C)]
 #[derive(Clone, Copy)]
-struct CString {
+struct CText {
     number: u8,
     offset: u32,
     length: u32,
@@ -154,8 +154,8 @@ struct CPins {
 #[derive(Clone, Copy)]
 pub struct CReport {
     header: CHeader,
-    build_date: CString,
-    hw_rev: CString,
+    build_date: CText,
+    hw_rev: CText,
     extra_info: CExtraInfo,
     metadata: CMetadata,
     rom_sets: CSets,
@@ -168,6 +168,15 @@ pub struct COpening {
     pub report: CReport,
 }
 
+const _: () = assert!(size_of::<CHeader>() == 32);
+const _: () = assert!(size_of::<CText>() == 12);
+const _: () = assert!(size_of::<CExtraInfo>() == 16);
+const _: () = assert!(size_of::<CMetadata>() == 2);
+const _: () = assert!(size_of::<CSets>() == 8);
+const _: () = assert!(size_of::<CPins>() == 78);
+const _: () = assert!(size_of::<CReport>() == 164);
+const _: () = assert!(size_of::<COpening>() == 168);
+
 impl CReport {
     /// The values as the host compares them. A flag that is neither 0 nor 1 is none.
     pub fn values(&self) -> Option<Report> {
@@ -177,7 +186,7 @@ impl CReport {
         for (to, from) in flags.iter_mut().zip(h.flags) {
             *to = flag(from)?;
         }
-        let string = |s: CString| [s.number as u32, s.offset, s.length];
+        let string = |s: CText| [s.number as u32, s.offset, s.length];
         Some(Report {
             fields: Fields {
                 version: h.version,

@@ -18,21 +18,6 @@ abbrev μ-loop : tie.MeasureT-loop
 loop-holds : tie.Need-loop-holds Inv-loop μ-loop
 loop-holds c = (omega arith, search needs, refl)
 
-array-read-lower : tie.Need-array-read-lower Inv-loop μ-loop
-array-read-lower c = search needs
-
-lower-requires : tie.Need-lower-requires Inv-loop μ-loop
-lower-requires c κs = search needs
-
-array-write-to : tie.Need-array-write-to Inv-loop μ-loop
-array-write-to c = search needs
-
-add-i : tie.Need-add-i Inv-loop μ-loop
-add-i c = search needs
-
-loop-less : tie.Need-loop-less Inv-loop μ-loop
-loop-less c = search needs
-
 loop-again : tie.Need-loop-again Inv-loop μ-loop
 loop-again c =
     let l = c .before .before .loop in
@@ -55,10 +40,10 @@ lower-all-spec =
     Inv-loop
     μ-loop
     loop-holds
-    array-read-lower
-    lower-requires
-    array-write-to
-    add-i
-    loop-less
+    (λ c. search needs)
+    (λ c κs. search needs)
+    (λ c. search needs)
+    (λ c. search needs)
+    (λ c. search needs)
     loop-again
     returns)

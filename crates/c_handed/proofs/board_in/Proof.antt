@@ -7,15 +7,9 @@ use Rattle.c_handed.proofs.board_in.Lts as lts
 use Rattle.c_handed.proofs.line_in.Reads as line-in-reads
 use Rattle.c_handed.proofs.pins_in.Reads as pins-in-reads
 
-line-in-requires : tie.Need-line-in-requires
-line-in-requires c κs = search needs
-
-pins-in-requires : tie.Need-pins-in-requires
-pins-in-requires c κs = search needs
-
 returns : tie.Need-returns
 unfolding boardIn
 returns c = rw (c .pins-in .ensures, c .before .line-in .ensures)
 
 pub board-in-spec : {M : Type 1} → statement M
-board-in-spec = tie.close (tie.spec line-in-requires pins-in-requires returns)
+board-in-spec = tie.close (tie.spec (λ c κs. search needs) (λ c κs. search needs) returns)

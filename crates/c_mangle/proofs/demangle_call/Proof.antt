@@ -7,18 +7,6 @@ use Rattle.c_mangle.proofs.Calls.{demangled}
 use Rattle.c_mangle.proofs.demangle_call.Statement.{statement}
 use Rattle.c_mangle.proofs.demangle_call.Tie as tie
 
-pins-from-requires : tie.Need-pins-from-requires
-pins-from-requires c κs = search needs
-
-pins-item-requires : tie.Need-pins-item-requires
-pins-item-requires c κs = search needs
-
-demangle-byte-requires : tie.Need-demangle-byte-requires
-demangle-byte-requires c κs = search needs
-
-cast-result : tie.Need-cast-result
-cast-result c = search needs
-
 returns : tie.Need-returns
 returns c =
     let entry = c .before .before .before .before .before .before .before .args in
@@ -42,9 +30,9 @@ pub demangle-call-spec : {M : Type 1} → statement M
 demangle-call-spec =
     tie.close
     (tie.spec
-    pins-from-requires
-    pins-item-requires
-    demangle-byte-requires
-    cast-result
+    (λ c κs. search needs)
+    (λ c κs. search needs)
+    (λ c κs. search needs)
+    (λ c. search needs)
     returns
     returns-2)

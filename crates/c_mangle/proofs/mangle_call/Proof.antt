@@ -7,21 +7,6 @@ use Rattle.c_mangle.proofs.Calls.{mangled}
 use Rattle.c_mangle.proofs.mangle_call.Statement.{statement}
 use Rattle.c_mangle.proofs.mangle_call.Tie as tie
 
-pins-from-requires : tie.Need-pins-from-requires
-pins-from-requires c κs = search needs
-
-levels-from-requires : tie.Need-levels-from-requires
-levels-from-requires c κs = search needs
-
-governing-set-0-requires : tie.Need-governing-set-0-requires
-governing-set-0-requires c κs = search needs
-
-mangle-by-requires : tie.Need-mangle-by-requires
-mangle-by-requires c κs = search needs
-
-cast-result : tie.Need-cast-result
-cast-result c = search needs
-
 returns : tie.Need-returns
 returns c =
     let entry = c .before .before .before .before .before .before .before .before .before .before .before .before .args in
@@ -51,10 +36,10 @@ pub mangle-call-spec : {M : Type 1} → statement M
 mangle-call-spec =
     tie.close
     (tie.spec
-    pins-from-requires
-    levels-from-requires
-    governing-set-0-requires
-    mangle-by-requires
-    cast-result
+    (λ c κs. search needs)
+    (λ c κs. search needs)
+    (λ c κs. search needs)
+    (λ c κs. search needs)
+    (λ c. search needs)
     returns
     returns-2)

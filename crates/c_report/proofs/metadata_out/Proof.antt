@@ -3,12 +3,6 @@ use borrow.Author.Needs.{needs}
 use Rattle.c_report.proofs.metadata_out.Statement.{statement}
 use Rattle.c_report.proofs.metadata_out.Tie as tie
 
-enum-told : tie.Need-enum-told
-enum-told c = search needs
-
-enum-known-m : tie.Need-enum-known-m
-enum-known-m c = search needs
-
 returns : tie.Need-returns
 unfolding metadataOut
 returns c = cc
@@ -18,4 +12,4 @@ unfolding metadataOut
 returns-2 c = cc
 
 pub metadata-out-spec : {M : Type 1} → statement M
-metadata-out-spec = tie.close (tie.spec enum-told enum-known-m returns returns-2)
+metadata-out-spec = tie.close (tie.spec (λ c. search needs) (λ c. search needs) returns returns-2)

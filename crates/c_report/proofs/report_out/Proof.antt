@@ -11,27 +11,6 @@ use Rattle.c_report.proofs.pins_out.Reads as pins-out-reads
 use Rattle.c_report.proofs.sets_out.Reads as sets-out-reads
 use Rattle.c_report.proofs.string_out.Reads as string-out-reads
 
-header-out-requires : tie.Need-header-out-requires
-header-out-requires c κs = search needs
-
-string-out-requires : tie.Need-string-out-requires
-string-out-requires c κs = search needs
-
-string-out-requires-2 : tie.Need-string-out-requires-2
-string-out-requires-2 c κs = search needs
-
-extra-out-requires : tie.Need-extra-out-requires
-extra-out-requires c κs = search needs
-
-metadata-out-requires : tie.Need-metadata-out-requires
-metadata-out-requires c κs = search needs
-
-sets-out-requires : tie.Need-sets-out-requires
-sets-out-requires c κs = search needs
-
-pins-out-requires : tie.Need-pins-out-requires
-pins-out-requires c κs = search needs
-
 returns : tie.Need-returns
 unfolding reportOut
 returns c =
@@ -42,11 +21,11 @@ pub report-out-spec : {M : Type 1} → statement M
 report-out-spec =
     tie.close
     (tie.spec
-    header-out-requires
-    string-out-requires
-    string-out-requires-2
-    extra-out-requires
-    metadata-out-requires
-    sets-out-requires
-    pins-out-requires
+    (λ c κs. search needs)
+    (λ c κs. search needs)
+    (λ c κs. search needs)
+    (λ c κs. search needs)
+    (λ c κs. search needs)
+    (λ c κs. search needs)
+    (λ c κs. search needs)
     returns)

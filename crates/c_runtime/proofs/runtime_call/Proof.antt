@@ -5,21 +5,6 @@ use Rattle.runtime_info.specs.Words.{numberOf, wordsAfter}
 use Rattle.c_runtime.proofs.runtime_call.Statement.{statement}
 use Rattle.c_runtime.proofs.runtime_call.Tie as tie
 
-parse-ram-requires : tie.Need-parse-ram-requires
-parse-ram-requires c κs = search needs
-
-enum-known-number : tie.Need-enum-known-number
-enum-known-number c = search needs
-
-cast-result : tie.Need-cast-result
-cast-result c = search needs
-
-enum-known-head : tie.Need-enum-known-head
-enum-known-head c = search needs
-
-runtime-words-requires : tie.Need-runtime-words-requires
-runtime-words-requires c κs = search needs
-
 returns : tie.Need-returns
 returns c =
     let before = c .before .before .before .before .before .args .words .now in
@@ -36,10 +21,10 @@ pub runtime-call-spec : {M : Type 1} → statement M
 runtime-call-spec =
     tie.close
     (tie.spec
-    parse-ram-requires
-    enum-known-number
-    cast-result
-    enum-known-head
-    runtime-words-requires
+    (λ c κs. search needs)
+    (λ c. search needs)
+    (λ c. search needs)
+    (λ c. search needs)
+    (λ c κs. search needs)
     returns
     returns-2)

@@ -5,12 +5,6 @@ use borrow.Author.Needs.{needs}
 use Rattle.c_sets.proofs.same_call.Statement.{statement}
 use Rattle.c_sets.proofs.same_call.Tie as tie
 
-same-set-requires : tie.Need-same-set-requires
-same-set-requires c κs = search needs
-
-cast-result : tie.Need-cast-result
-cast-result c = search needs
-
 returns : tie.Need-returns
 returns c =
     let call = c .before .before .before .same-set in
@@ -23,4 +17,4 @@ returns-2 c =
     valued-given (call .result) _ (call .ensures) zero
 
 pub same-call-spec : {M : Type 1} → statement M
-same-call-spec = tie.close (tie.spec same-set-requires cast-result returns returns-2)
+same-call-spec = tie.close (tie.spec (λ c κs. search needs) (λ c. search needs) returns returns-2)

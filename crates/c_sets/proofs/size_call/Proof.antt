@@ -5,12 +5,6 @@ use borrow.Author.Needs.{needs}
 use Rattle.c_sets.proofs.size_call.Statement.{statement}
 use Rattle.c_sets.proofs.size_call.Tie as tie
 
-get-rom-set-size-requires : tie.Need-get-rom-set-size-requires
-get-rom-set-size-requires c κs = search needs
-
-cast-result : tie.Need-cast-result
-cast-result c = search needs
-
 returns : tie.Need-returns
 returns c =
     let call = c .before .before .before .get-rom-set-size in
@@ -24,4 +18,4 @@ returns-2 c =
 
 pub size-call-spec : {M : Type 1} → statement M
 size-call-spec =
-    tie.close (tie.spec get-rom-set-size-requires cast-result returns returns-2)
+    tie.close (tie.spec (λ c κs. search needs) (λ c. search needs) returns returns-2)

@@ -10,12 +10,6 @@ use Rattle.text.specs.Text.{partAfter}
 use Rattle.c_string.proofs.string_call.Statement.{statement}
 use Rattle.c_string.proofs.string_call.Tie as tie
 
-string-at-requires : tie.Need-string-at-requires
-string-at-requires c κs = search needs
-
-cast-result : tie.Need-cast-result
-cast-result c = search needs
-
 returns : tie.Need-returns
 returns c =
     let entry = c .before .before .before .before .before .args in
@@ -35,4 +29,4 @@ returns-2 c =
     (sym zero ∙ ap (λ (u : Text). u .number) told, written ∙ ap (λ (u : Text). partAfter u (entry .part .now)) told)
 
 pub string-call-spec : {M : Type 1} → statement M
-string-call-spec = tie.close (tie.spec string-at-requires cast-result returns returns-2)
+string-call-spec = tie.close (tie.spec (λ c κs. search needs) (λ c. search needs) returns returns-2)

@@ -6,9 +6,6 @@ use Rattle.demangle.specs.Bits.{bitAt, takenBit}
 use Rattle.demangle.proofs.bit_of.Statement.{statement}
 use Rattle.demangle.proofs.bit_of.Tie as tie
 
-shr-result : tie.Need-shr-result
-shr-result c = search needs
-
 returns : tie.Need-returns
 unfolding takenBit bitAt
 returns c =
@@ -20,4 +17,4 @@ unfolding takenBit
 returns-2 c = rw (le-ltb (c .before .args .e) 32 (c .if1 .left))
 
 pub bit-of-spec : {M : Type 1} → statement M
-bit-of-spec = tie.close (tie.spec shr-result returns returns-2)
+bit-of-spec = tie.close (tie.spec (λ c. search needs) returns returns-2)

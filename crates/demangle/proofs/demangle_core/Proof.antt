@@ -6,21 +6,12 @@ use Rattle.demangle.specs.Demangle.{allBelow, demangle}
 use Rattle.demangle.proofs.demangle_core.Statement.{statement}
 use Rattle.demangle.proofs.demangle_core.Tie as tie
 
-slice-aggregate-all-below : tie.Need-slice-aggregate-all-below
-slice-aggregate-all-below c = search needs
-
-all-below-requires : tie.Need-all-below-requires
-all-below-requires c κs = search needs
-
 returns : tie.Need-returns
 unfolding demangle
 returns c =
     let b = c .before .all-below in
     let e : allBelow 8 (c .before .before .before .args .t1) ≡ false = sym (b .ensures) ∙ not-true (b .result) (c .if1 .taken) in
     rw e
-
-unplace-requires : tie.Need-unplace-requires
-unplace-requires c κs = search needs
 
 returns-2 : tie.Need-returns-2
 unfolding demangle
@@ -32,4 +23,4 @@ returns-2 c =
 pub demangle-core-spec : {M : Type 1} → statement M
 demangle-core-spec =
     tie.close
-    (tie.spec slice-aggregate-all-below all-below-requires returns unplace-requires returns-2)
+    (tie.spec (λ c. search needs) (λ c κs. search needs) returns (λ c κs. search needs) returns-2)

@@ -7,12 +7,6 @@ use Rattle.demangle.specs.Laws.{gather-lt}
 use Rattle.demangle.proofs.unplace.Statement.{statement}
 use Rattle.demangle.proofs.unplace.Tie as tie
 
-slice-aggregate-gathered : tie.Need-slice-aggregate-gathered
-slice-aggregate-gathered c = search needs
-
-gathered-requires : tie.Need-gathered-requires
-gathered-requires c κs = search needs
-
 cast-result : tie.Need-cast-result
 cast-result c =
     let a = c .before .before .args in
@@ -20,8 +14,5 @@ cast-result c =
     let k : gather (a .t1) (a .byte) < 2 ^ 8 = rw h at (gather-lt (a .t1) (a .byte)) in
     record { fits = rw (c .gathered .ensures) k }
 
-returns : tie.Need-returns
-returns c = search needs
-
 pub unplace-spec : {M : Type 1} → statement M
-unplace-spec = tie.close (tie.spec slice-aggregate-gathered gathered-requires cast-result returns)
+unplace-spec = tie.close (tie.spec (λ c. search needs) (λ c κs. search needs) cast-result (λ c. search needs))

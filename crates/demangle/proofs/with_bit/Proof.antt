@@ -7,13 +7,10 @@ use borrow.Author.Needs.{needs}
 use Rattle.demangle.proofs.with_bit.Statement.{statement}
 use Rattle.demangle.proofs.with_bit.Tie as tie
 
-shl-result : tie.Need-shl-result
-shl-result c = search needs
-
 returns : tie.Need-returns
 returns c =
     let a = c .args in
     rw (shl-exact {a = a .b} 1 (a .i) 32 (c .pre .2) (omega arith)) (or-shifted-r (a .b) (a .i) (a .r) (c .pre .1) ∙ add-comm _ _)
 
 pub with-bit-spec : {M : Type 1} → statement M
-with-bit-spec = tie.close (tie.spec shl-result returns)
+with-bit-spec = tie.close (tie.spec (λ c. search needs) returns)

@@ -6,14 +6,8 @@ use Rattle.extra_info.specs.Laws.{pio-given, pio-not-given}
 use Rattle.extra_info.proofs.fire_pio_default.Statement.{statement}
 use Rattle.extra_info.proofs.fire_pio_default.Tie as tie
 
-from-0-6-0-requires : tie.Need-from-0-6-0-requires
-from-0-6-0-requires c κs = search needs
-
 returns : tie.Need-returns
 returns c = sym (pio-not-given _ (c .before .before .before .args .«data» .now) (sym (c .before .from-0-6-0 .ensures) ∙ not-true _ (c .if1 .taken)))
-
-flag-at-requires : tie.Need-flag-at-requires
-flag-at-requires c κs = search needs
 
 returns-2 : tie.Need-returns-2
 returns-2 c =
@@ -21,4 +15,4 @@ returns-2 c =
     ∙ sym (pio-given _ (c .before .before .before .before .args .«data» .now) (sym (c .before .before .from-0-6-0 .ensures) ∙ not-false _ (c .before .if1 .left)))
 
 pub fire-pio-default-spec : {M : Type 1} → statement M
-fire-pio-default-spec = tie.close (tie.spec from-0-6-0-requires returns flag-at-requires returns-2)
+fire-pio-default-spec = tie.close (tie.spec (λ c κs. search needs) returns (λ c κs. search needs) returns-2)

@@ -7,14 +7,8 @@ use Rattle.extra_info.specs.Laws.{extra-info-short, extra-info-whole}
 use Rattle.extra_info.proofs.parse_extra_info.Statement.{statement}
 use Rattle.extra_info.proofs.parse_extra_info.Tie as tie
 
-refuse-requires : tie.Need-refuse-requires
-refuse-requires c κs = search needs
-
 returns : tie.Need-returns
 returns c = c .refuse .ensures ∙ sym (extra-info-short _ _ (omega arith))
-
-read-fields-requires : tie.Need-read-fields-requires
-read-fields-requires c κs = search needs
 
 returns-2 : tie.Need-returns-2
 returns-2 c =
@@ -22,4 +16,4 @@ returns-2 c =
     ap r (c .read-fields .ensures) ∙ sym (extra-info-whole _ _ (omega arith))
 
 pub parse-extra-info-spec : {M : Type 1} → statement M
-parse-extra-info-spec = tie.close (tie.spec refuse-requires returns read-fields-requires returns-2)
+parse-extra-info-spec = tie.close (tie.spec (λ c κs. search needs) returns (λ c κs. search needs) returns-2)

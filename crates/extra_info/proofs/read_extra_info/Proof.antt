@@ -5,24 +5,12 @@ use Rattle.extra_info.specs.Laws.{extra-info-front}
 use Rattle.extra_info.proofs.read_extra_info.Statement.{statement}
 use Rattle.extra_info.proofs.read_extra_info.Tie as tie
 
-pointer-number-requires : tie.Need-pointer-number-requires
-pointer-number-requires c κs = search needs
-
-refuse-requires : tie.Need-refuse-requires
-refuse-requires c κs = search needs
-
 returns : tie.Need-returns
 unfolding extraInfoP
 returns c =
     let a = c .before .before .before .before .args in
     let number = c .before .before .pointer-number in
     pointer-refused (a .image .now) (a .base) (a .ptr) 256 refusedExtraInfo (extraInfoOf (a .version)) (extra-info-front (a .version)) (number .result) (number .ensures) (c .refuse .result) (search needs) (c .refuse .ensures)
-
-image-from-requires : tie.Need-image-from-requires
-image-from-requires c κs = search needs
-
-parse-extra-info-requires : tie.Need-parse-extra-info-requires
-parse-extra-info-requires c κs = search needs
 
 returns-2 : tie.Need-returns-2
 unfolding extraInfoP
@@ -34,4 +22,4 @@ returns-2 c =
 
 pub read-extra-info-spec : {M : Type 1} → statement M
 read-extra-info-spec =
-    tie.close (tie.spec pointer-number-requires refuse-requires returns image-from-requires parse-extra-info-requires returns-2)
+    tie.close (tie.spec (λ c κs. search needs) (λ c κs. search needs) returns (λ c κs. search needs) (λ c κs. search needs) returns-2)

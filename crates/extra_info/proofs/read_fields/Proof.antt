@@ -5,27 +5,6 @@ use Rattle.extra_info.specs.ExtraInfo.{extraInfoFields}
 use Rattle.extra_info.proofs.read_fields.Statement.{statement}
 use Rattle.extra_info.proofs.read_fields.Tie as tie
 
-u32-at-requires : tie.Need-u32-at-requires
-u32-at-requires c κs = search needs
-
-flag-at-requires : tie.Need-flag-at-requires
-flag-at-requires c κs = search needs
-
-u8-at-requires : tie.Need-u8-at-requires
-u8-at-requires c κs = search needs
-
-port-of-requires : tie.Need-port-of-requires
-port-of-requires c κs = search needs
-
-u8-at-requires-2 : tie.Need-u8-at-requires-2
-u8-at-requires-2 c κs = search needs
-
-fire-pio-default-requires : tie.Need-fire-pio-default-requires
-fire-pio-default-requires c κs = search needs
-
-u32-at-requires-2 : tie.Need-u32-at-requires-2
-u32-at-requires-2 c κs = search needs
-
 returns : tie.Need-returns
 unfolding extraInfoFields
 returns c = λ i.
@@ -42,11 +21,11 @@ pub read-fields-spec : {M : Type 1} → statement M
 read-fields-spec =
     tie.close
     (tie.spec
-    u32-at-requires
-    flag-at-requires
-    u8-at-requires
-    port-of-requires
-    u8-at-requires-2
-    fire-pio-default-requires
-    u32-at-requires-2
+    (λ c κs. search needs)
+    (λ c κs. search needs)
+    (λ c κs. search needs)
+    (λ c κs. search needs)
+    (λ c κs. search needs)
+    (λ c κs. search needs)
+    (λ c κs. search needs)
     returns)

@@ -4,12 +4,6 @@ use Rattle.fw_parser.specs.Laws.Steps.{refused-by, opened-by, left-beyon
 use Rattle.fw_parser.proofs.parse_flash.Statement.{statement}
 use Rattle.fw_parser.proofs.parse_flash.Tie as tie
 
-no-report-requires : tie.Need-no-report-requires
-no-report-requires c κs = search needs
-
-beyond-window-requires : tie.Need-beyond-window-requires
-beyond-window-requires c κs = search needs
-
 returns : tie.Need-returns
 returns c =
     let b = c .before in
@@ -17,9 +11,6 @@ returns c =
     let a = n .before .before .before .before .args in
     let l = left-beyond (a .settings) (a .image .now) (a .set-rows .now) (a .rom-rows .now) (sym (b .beyond-window .ensures) ∙ c .if1 .taken) in
     (refused-by _ _ (n .no-report .ensures) ∙ l .reply, (l .set-rows, l .rom-rows))
-
-retrieve-header-requires : tie.Need-retrieve-header-requires
-retrieve-header-requires c κs = search needs
 
 returns-2 : tie.Need-returns-2
 returns-2 c =
@@ -30,27 +21,6 @@ returns-2 c =
     let a = n .before .before .before .before .args in
     let l = left-header (a .settings) (a .image .now) (a .set-rows .now) (a .rom-rows .now) (sym (b .beyond-window .ensures) ∙ e .if1 .left) _ (h .retrieve-header .ensures) (c .if2 .taken) in
     (refused-by _ _ (n .no-report .ensures) ∙ l .reply, (l .set-rows, l .rom-rows))
-
-base-after-requires : tie.Need-base-after-requires
-base-after-requires c κs = search needs
-
-read-records-requires : tie.Need-read-records-requires
-read-records-requires c κs = search needs
-
-walk-sets-requires : tie.Need-walk-sets-requires
-walk-sets-requires c κs = search needs
-
-report-requires : tie.Need-report-requires
-report-requires c κs = search needs
-
-is-short-requires : tie.Need-is-short-requires
-is-short-requires c κs = search needs
-
-same-length : tie.Need-same-length
-same-length c = search needs
-
-same-length-2 : tie.Need-same-length-2
-same-length-2 c = search needs
 
 returns-3 : tie.Need-returns-3
 returns-3 c =
@@ -68,12 +38,6 @@ returns-3 c =
     let l = left-short (a .settings) (a .image .now) (a .set-rows .now) (a .rom-rows .now) (sym (b .beyond-window .ensures) ∙ e .if1 .left) _ (h .retrieve-header .ensures) (f .if2 .left) _ (g .base-after .ensures) _ (k .read-records .ensures) _ _ _
     (record { reply = w .walk-sets .ensures .0; set-rows = w .walk-sets .ensures .1 .0; rom-rows = w .walk-sets .ensures .1 .1 }) (sym (q .is-short .ensures) ∙ c .if3 .taken) in
     (refused-by _ _ (n .no-report .ensures) ∙ l .reply, (l .set-rows, l .rom-rows))
-
-same-length-3 : tie.Need-same-length-3
-same-length-3 c = search needs
-
-same-length-4 : tie.Need-same-length-4
-same-length-4 c = search needs
 
 returns-4 : tie.Need-returns-4
 returns-4 c =
@@ -96,19 +60,19 @@ pub parse-flash-spec : {M : Type 1} → statement M
 parse-flash-spec =
     tie.close
     (tie.spec
-    no-report-requires
-    beyond-window-requires
+    (λ c κs. search needs)
+    (λ c κs. search needs)
     returns
-    retrieve-header-requires
+    (λ c κs. search needs)
     returns-2
-    base-after-requires
-    read-records-requires
-    walk-sets-requires
-    report-requires
-    is-short-requires
-    same-length
-    same-length-2
+    (λ c κs. search needs)
+    (λ c κs. search needs)
+    (λ c κs. search needs)
+    (λ c κs. search needs)
+    (λ c κs. search needs)
+    (λ c. search needs)
+    (λ c. search needs)
     returns-3
-    same-length-3
-    same-length-4
+    (λ c. search needs)
+    (λ c. search needs)
     returns-4)

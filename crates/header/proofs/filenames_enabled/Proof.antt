@@ -4,15 +4,9 @@ use borrow.Author.Needs.{needs}
 use Rattle.header.proofs.filenames_enabled.Statement.{statement}
 use Rattle.header.proofs.filenames_enabled.Tie as tie
 
-from-0-5-1-requires : tie.Need-from-0-5-1-requires
-from-0-5-1-requires c κs = search needs
-
-either-requires : tie.Need-either-requires
-either-requires c κs = search needs
-
 returns : tie.Need-returns
 returns c =
     c .either .ensures ∙ ap (λ (b : Bool). b || c .before .before .args .fields .«boot_logging_enabled») (c .before .from-0-5-1 .ensures)
 
 pub filenames-enabled-spec : {M : Type 1} → statement M
-filenames-enabled-spec = tie.close (tie.spec from-0-5-1-requires either-requires returns)
+filenames-enabled-spec = tie.close (tie.spec (λ c κs. search needs) (λ c κs. search needs) returns)

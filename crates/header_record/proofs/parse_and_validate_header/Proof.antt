@@ -30,38 +30,14 @@ storage-there c = rw (c .before .u16-at2 .ensures) at (c .if4 .left)
 version-test : (c : tie.After-from-0-7-0) → c .from-0-7-0 .result ≡ from070 (versionOf (c .before .before .before .before .before .before .before .before .before .before .before .args .«data» .now))
 version-test c = c .from-0-7-0 .ensures ∙ ap from070 (c .before .read-version .ensures)
 
-refuse-requires : tie.Need-refuse-requires
-refuse-requires c κs = search needs
-
 returns : tie.Need-returns
 returns c = c .refuse .ensures ∙ sym (header-short _ (omega arith))
-
-slice-aggregate-starts-with : tie.Need-slice-aggregate-starts-with
-slice-aggregate-starts-with c = search needs
-
-starts-with-requires : tie.Need-starts-with-requires
-starts-with-requires c κs = search needs
-
-refuse-requires-2 : tie.Need-refuse-requires-2
-refuse-requires-2 c κs = search needs
 
 returns-2 : tie.Need-returns-2
 returns-2 c = c .refuse2 .ensures ∙ sym (header-no-magic _ (omega arith) (sym (c .before .before .starts-with .ensures) ∙ not-true _ (c .before .if2 .taken)))
 
-u16-at-requires : tie.Need-u16-at-requires
-u16-at-requires c κs = search needs
-
-refuse-requires-3 : tie.Need-refuse-requires-3
-refuse-requires-3 c κs = search needs
-
 returns-3 : tie.Need-returns-3
 returns-3 c = c .refuse3 .ensures ∙ sym (header-line _ (omega arith) (magic-there (c .before .before .before)) (rw (c .before .before .u16-at .ensures) at (c .before .if3 .taken)))
-
-u16-at-requires-2 : tie.Need-u16-at-requires-2
-u16-at-requires-2 c κs = search needs
-
-refuse-requires-4 : tie.Need-refuse-requires-4
-refuse-requires-4 c κs = search needs
 
 returns-4 : tie.Need-returns-4
 returns-4 c =
@@ -69,23 +45,11 @@ returns-4 c =
     c .refuse4 .ensures
     ∙ sym (header-storage _ (omega arith) (magic-there (d .before .before)) (line-there d) (rw (c .before .before .u16-at2 .ensures) at (c .before .if4 .taken)))
 
-read-version-requires : tie.Need-read-version-requires
-read-version-requires c κs = search needs
-
-from-0-7-0-requires : tie.Need-from-0-7-0-requires
-from-0-7-0-requires c κs = search needs
-
-refuse-requires-5 : tie.Need-refuse-requires-5
-refuse-requires-5 c κs = search needs
-
 returns-5 : tie.Need-returns-5
 returns-5 c =
     let d = c .before .before .before .before in
     c .refuse5 .ensures
     ∙ sym (header-version _ (omega arith) (magic-there (d .before .before .before .before)) (line-there (d .before .before)) (storage-there d) (sym (version-test (c .before .before)) ∙ c .before .if5 .taken))
-
-read-whole-requires : tie.Need-read-whole-requires
-read-whole-requires c κs = search needs
 
 returns-6 : tie.Need-returns-6
 returns-6 c =
@@ -98,21 +62,21 @@ pub parse-and-validate-header-spec : {M : Type 1} → statement M
 parse-and-validate-header-spec =
     tie.close
     (tie.spec
-    refuse-requires
+    (λ c κs. search needs)
     returns
-    slice-aggregate-starts-with
-    starts-with-requires
-    refuse-requires-2
+    (λ c. search needs)
+    (λ c κs. search needs)
+    (λ c κs. search needs)
     returns-2
-    u16-at-requires
-    refuse-requires-3
+    (λ c κs. search needs)
+    (λ c κs. search needs)
     returns-3
-    u16-at-requires-2
-    refuse-requires-4
+    (λ c κs. search needs)
+    (λ c κs. search needs)
     returns-4
-    read-version-requires
-    from-0-7-0-requires
-    refuse-requires-5
+    (λ c κs. search needs)
+    (λ c κs. search needs)
+    (λ c κs. search needs)
     returns-5
-    read-whole-requires
+    (λ c κs. search needs)
     returns-6)

@@ -6,54 +6,6 @@ use Rattle.header.specs.Header.{headerFields}
 use Rattle.header_record.proofs.read_fields.Statement.{statement}
 use Rattle.header_record.proofs.read_fields.Tie as tie
 
-read-version-requires : tie.Need-read-version-requires
-read-version-requires c κs = search needs
-
-eight-at-requires : tie.Need-eight-at-requires
-eight-at-requires c κs = search needs
-
-u16-at-requires : tie.Need-u16-at-requires
-u16-at-requires c κs = search needs
-
-line-of-requires : tie.Need-line-of-requires
-line-of-requires c κs = search needs
-
-u16-at-requires-2 : tie.Need-u16-at-requires-2
-u16-at-requires-2 c κs = search needs
-
-storage-of-requires : tie.Need-storage-of-requires
-storage-of-requires c κs = search needs
-
-u16-at-requires-3 : tie.Need-u16-at-requires-3
-u16-at-requires-3 c κs = search needs
-
-shared-slice-read-t10 : tie.Need-shared-slice-read-t10
-shared-slice-read-t10 c = search needs
-
-shared-slice-read-t13 : tie.Need-shared-slice-read-t13
-shared-slice-read-t13 c = search needs
-
-shared-slice-read-t16 : tie.Need-shared-slice-read-t16
-shared-slice-read-t16 c = search needs
-
-shared-slice-read-t19 : tie.Need-shared-slice-read-t19
-shared-slice-read-t19 c = search needs
-
-shared-slice-read-t22 : tie.Need-shared-slice-read-t22
-shared-slice-read-t22 c = search needs
-
-shared-slice-read-t25 : tie.Need-shared-slice-read-t25
-shared-slice-read-t25 c = search needs
-
-shared-slice-read-t28 : tie.Need-shared-slice-read-t28
-shared-slice-read-t28 c = search needs
-
-shared-slice-read-t31 : tie.Need-shared-slice-read-t31
-shared-slice-read-t31 c = search needs
-
-four-at-requires : tie.Need-four-at-requires
-four-at-requires c κs = search needs
-
 returns : tie.Need-returns
 unfolding headerFields
 returns c =
@@ -84,20 +36,20 @@ pub read-fields-spec : {M : Type 1} → statement M
 read-fields-spec =
     tie.close
     (tie.spec
-    read-version-requires
-    eight-at-requires
-    u16-at-requires
-    line-of-requires
-    u16-at-requires-2
-    storage-of-requires
-    u16-at-requires-3
-    shared-slice-read-t10
-    shared-slice-read-t13
-    shared-slice-read-t16
-    shared-slice-read-t19
-    shared-slice-read-t22
-    shared-slice-read-t25
-    shared-slice-read-t28
-    shared-slice-read-t31
-    four-at-requires
+    (λ c κs. search needs)
+    (λ c κs. search needs)
+    (λ c κs. search needs)
+    (λ c κs. search needs)
+    (λ c κs. search needs)
+    (λ c κs. search needs)
+    (λ c κs. search needs)
+    (λ c. search needs)
+    (λ c. search needs)
+    (λ c. search needs)
+    (λ c. search needs)
+    (λ c. search needs)
+    (λ c. search needs)
+    (λ c. search needs)
+    (λ c. search needs)
+    (λ c κs. search needs)
     returns)

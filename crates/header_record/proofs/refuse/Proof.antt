@@ -3,9 +3,6 @@ use Rattle.header.specs.Header.{noHeader}
 use Rattle.header_record.proofs.refuse.Statement.{statement}
 use Rattle.header_record.proofs.refuse.Tie as tie
 
-no-fields-requires : tie.Need-no-fields-requires
-no-fields-requires c κs = search needs
-
 returns : tie.Need-returns
 unfolding noHeader
 returns c = λ i.
@@ -15,4 +12,4 @@ returns c = λ i.
     }
 
 pub refuse-spec : {M : Type 1} → statement M
-refuse-spec = tie.close (tie.spec no-fields-requires returns)
+refuse-spec = tie.close (tie.spec (λ c κs. search needs) returns)

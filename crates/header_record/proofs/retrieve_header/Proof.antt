@@ -6,23 +6,8 @@ use Rattle.header.specs.Laws.{header-ended, header-onward}
 use Rattle.header_record.proofs.retrieve_header.Statement.{statement}
 use Rattle.header_record.proofs.retrieve_header.Tie as tie
 
-add-address : tie.Need-add-address
-add-address c = search needs
-
-can-read-requires : tie.Need-can-read-requires
-can-read-requires c κs = search needs
-
-refuse-requires : tie.Need-refuse-requires
-refuse-requires c κs = search needs
-
 returns : tie.Need-returns
 returns c = c .refuse .ensures ∙ sym (header-ended _ _ _ (sym (c .before .before .can-read .ensures) ∙ not-true _ (c .before .if1 .taken)))
-
-image-from-requires : tie.Need-image-from-requires
-image-from-requires c κs = search needs
-
-parse-and-validate-header-requires : tie.Need-parse-and-validate-header-requires
-parse-and-validate-header-requires c κs = search needs
 
 returns-2 : tie.Need-returns-2
 returns-2 c =
@@ -34,10 +19,10 @@ pub retrieve-header-spec : {M : Type 1} → statement M
 retrieve-header-spec =
     tie.close
     (tie.spec
-    add-address
-    can-read-requires
-    refuse-requires
+    (λ c. search needs)
+    (λ c κs. search needs)
+    (λ c κs. search needs)
     returns
-    image-from-requires
-    parse-and-validate-header-requires
+    (λ c κs. search needs)
+    (λ c κs. search needs)
     returns-2)

@@ -17,24 +17,6 @@ abbrev μ-loop : tie.MeasureT-loop
 loop-holds : tie.Need-loop-holds Inv-loop μ-loop
 loop-holds c = (omega arith, refl)
 
-array-read-raise : tie.Need-array-read-raise Inv-loop μ-loop
-array-read-raise c = search needs
-
-mul-raise : tie.Need-mul-raise Inv-loop μ-loop
-mul-raise c = search needs
-
-array-read-raise-2 : tie.Need-array-read-raise-2 Inv-loop μ-loop
-array-read-raise-2 c = search needs
-
-raise-requires : tie.Need-raise-requires Inv-loop μ-loop
-raise-requires c κs = search needs
-
-add-i : tie.Need-add-i Inv-loop μ-loop
-add-i c = search needs
-
-loop-less : tie.Need-loop-less Inv-loop μ-loop
-loop-less c = search needs
-
 loop-again : tie.Need-loop-again Inv-loop μ-loop
 loop-again c =
     let l = c .before .before .loop in
@@ -58,11 +40,11 @@ raised-spec =
     Inv-loop
     μ-loop
     loop-holds
-    array-read-raise
-    mul-raise
-    array-read-raise-2
-    raise-requires
-    add-i
-    loop-less
+    (λ c. search needs)
+    (λ c. search needs)
+    (λ c. search needs)
+    (λ c κs. search needs)
+    (λ c. search needs)
+    (λ c. search needs)
     loop-again
     returns)

@@ -3,20 +3,8 @@ use Rattle.judge_walk.proofs.Steps.{part-header, part-roms}
 use Rattle.judge_walk.proofs.judge_part.Statement.{statement}
 use Rattle.judge_walk.proofs.judge_part.Tie as tie
 
-judge-set-header-requires : tie.Need-judge-set-header-requires
-judge-set-header-requires c κs = search needs
-
 returns : tie.Need-returns
 returns c = part-header _ _ _ _ _ (c .before .judge-set-header .ensures) (c .if1 .taken)
-
-u32-at-requires : tie.Need-u32-at-requires
-u32-at-requires c κs = search needs
-
-u8-at-requires : tie.Need-u8-at-requires
-u8-at-requires c κs = search needs
-
-judge-rom-infos-requires : tie.Need-judge-rom-infos-requires
-judge-rom-infos-requires c κs = search needs
 
 returns-2 : tie.Need-returns-2
 returns-2 c =
@@ -27,9 +15,9 @@ pub judge-part-spec : {M : Type 1} → statement M
 judge-part-spec =
     tie.close
     (tie.spec
-    judge-set-header-requires
+    (λ c κs. search needs)
     returns
-    u32-at-requires
-    u8-at-requires
-    judge-rom-infos-requires
+    (λ c κs. search needs)
+    (λ c κs. search needs)
+    (λ c κs. search needs)
     returns-2)

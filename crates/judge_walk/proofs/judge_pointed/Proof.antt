@@ -8,9 +8,6 @@ use Rattle.judge_walk.proofs.judge_pointed.Tie as tie
 returns : tie.Need-returns
 returns c = pointed-none _ _ _ (c .if1 .taken)
 
-can-read-requires : tie.Need-can-read-requires
-can-read-requires c κs = search needs
-
 returns-2 : tie.Need-returns-2
 returns-2 c = pointed-ended _ _ _ (c .before .before .if1 .left) (sym (c .before .can-read .ensures) ∙ not-true _ (c .if2 .taken))
 
@@ -18,4 +15,4 @@ returns-3 : tie.Need-returns-3
 returns-3 c = pointed-good _ _ _ (c .before .before .if1 .left) (sym (c .before .can-read .ensures) ∙ not-false _ (c .if2 .left))
 
 pub judge-pointed-spec : {M : Type 1} → statement M
-judge-pointed-spec = tie.close (tie.spec returns can-read-requires returns-2 returns-3)
+judge-pointed-spec = tie.close (tie.spec returns (λ c κs. search needs) returns-2 returns-3)

@@ -3,26 +3,8 @@ use Rattle.judge_walk.proofs.Steps.{info-type, info-state, info-good}
 use Rattle.judge_walk.proofs.judge_rom_info.Statement.{statement}
 use Rattle.judge_walk.proofs.judge_rom_info.Tie as tie
 
-u8-at-requires : tie.Need-u8-at-requires
-u8-at-requires c κs = search needs
-
 returns : tie.Need-returns
 returns c = info-type _ _ (c .before .u8-at .ensures) (c .if1 .taken)
-
-u8-at-requires-2 : tie.Need-u8-at-requires-2
-u8-at-requires-2 c κs = search needs
-
-u8-at-requires-3 : tie.Need-u8-at-requires-3
-u8-at-requires-3 c κs = search needs
-
-either-requires : tie.Need-either-requires
-either-requires c κs = search needs
-
-u8-at-requires-4 : tie.Need-u8-at-requires-4
-u8-at-requires-4 c κs = search needs
-
-either-requires-2 : tie.Need-either-requires-2
-either-requires-2 c κs = search needs
 
 returns-2 : tie.Need-returns-2
 returns-2 c =
@@ -42,12 +24,12 @@ pub judge-rom-info-spec : {M : Type 1} → statement M
 judge-rom-info-spec =
     tie.close
     (tie.spec
-    u8-at-requires
+    (λ c κs. search needs)
     returns
-    u8-at-requires-2
-    u8-at-requires-3
-    either-requires
-    u8-at-requires-4
-    either-requires-2
+    (λ c κs. search needs)
+    (λ c κs. search needs)
+    (λ c κs. search needs)
+    (λ c κs. search needs)
+    (λ c κs. search needs)
     returns-2
     returns-3)

@@ -9,15 +9,6 @@ returns c = walk-none _ _ _ _ _ (c .if1 .taken)
 returns-2 : tie.Need-returns-2
 returns-2 c = walk-below _ _ _ _ _ (c .before .if1 .left) (c .if2 .taken)
 
-filenames-enabled-requires : tie.Need-filenames-enabled-requires
-filenames-enabled-requires c κs = search needs
-
-from-0-6-0-requires : tie.Need-from-0-6-0-requires
-from-0-6-0-requires c κs = search needs
-
-judge-sets-requires : tie.Need-judge-sets-requires
-judge-sets-requires c κs = search needs
-
 returns-3 : tie.Need-returns-3
 returns-3 c =
     let d = c .before .before .before in
@@ -29,7 +20,7 @@ judge-rom-sets-spec =
     (tie.spec
     returns
     returns-2
-    filenames-enabled-requires
-    from-0-6-0-requires
-    judge-sets-requires
+    (λ c κs. search needs)
+    (λ c κs. search needs)
+    (λ c κs. search needs)
     returns-3)

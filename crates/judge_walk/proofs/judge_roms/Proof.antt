@@ -16,9 +16,6 @@ abbrev μ-loop : tie.MeasureT-loop
 loop-holds : tie.Need-loop-holds Inv-loop μ-loop
 loop-holds c = (omega arith, refl)
 
-judge-rom-requires : tie.Need-judge-rom-requires Inv-loop μ-loop
-judge-rom-requires c κs = search needs
-
 returns : tie.Need-returns Inv-loop μ-loop
 returns c = roms-stop _ _ _ _ _ (c .before .before .loop-test .taken) _ (c .before .judge-rom .ensures) (c .if1 .taken) ∙ c .before .before .before .loop .inv .1
 
@@ -44,7 +41,7 @@ judge-roms-spec =
     Inv-loop
     μ-loop
     loop-holds
-    judge-rom-requires
+    (λ c κs. search needs)
     returns
     add-entry
     sub-left

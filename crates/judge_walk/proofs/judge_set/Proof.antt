@@ -5,17 +5,8 @@ use Rattle.judge_walk.proofs.Steps.{set-ended, set-judged}
 use Rattle.judge_walk.proofs.judge_set.Statement.{statement}
 use Rattle.judge_walk.proofs.judge_set.Tie as tie
 
-can-read-requires : tie.Need-can-read-requires
-can-read-requires c κs = search needs
-
 returns : tie.Need-returns
 returns c = set-ended _ _ _ _ (sym (c .before .can-read .ensures) ∙ not-true _ (c .if1 .taken))
-
-image-from-requires : tie.Need-image-from-requires
-image-from-requires c κs = search needs
-
-judge-part-requires : tie.Need-judge-part-requires
-judge-part-requires c κs = search needs
 
 returns-2 : tie.Need-returns-2
 returns-2 c =
@@ -25,4 +16,4 @@ returns-2 c =
 pub judge-set-spec : {M : Type 1} → statement M
 judge-set-spec =
     tie.close
-    (tie.spec can-read-requires returns image-from-requires judge-part-requires returns-2)
+    (tie.spec (λ c κs. search needs) returns (λ c κs. search needs) (λ c κs. search needs) returns-2)

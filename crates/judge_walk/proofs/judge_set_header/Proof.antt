@@ -3,37 +3,19 @@ use Rattle.judge_walk.proofs.Steps.{header-serve, header-state, header-
 use Rattle.judge_walk.proofs.judge_set_header.Statement.{statement}
 use Rattle.judge_walk.proofs.judge_set_header.Tie as tie
 
-u8-at-requires : tie.Need-u8-at-requires
-u8-at-requires c κs = search needs
-
 returns : tie.Need-returns
 returns c = header-serve _ _ _ _ (c .before .u8-at .ensures) (c .if1 .taken)
-
-u8-at-requires-2 : tie.Need-u8-at-requires-2
-u8-at-requires-2 c κs = search needs
 
 returns-2 : tie.Need-returns-2
 returns-2 c =
     let d = c .before .before in
     header-state _ _ _ _ (d .before .u8-at .ensures) (d .if1 .left) _ (c .before .u8-at2 .ensures) (c .if2 .taken)
 
-serve-config-requires : tie.Need-serve-config-requires
-serve-config-requires c κs = search needs
-
-judge-pointed-requires : tie.Need-judge-pointed-requires
-judge-pointed-requires c κs = search needs
-
 returns-3 : tie.Need-returns-3
 returns-3 c =
     let e = c .before .before .before in
     let d = e .before .before in
     header-config _ _ _ _ (d .before .u8-at .ensures) (d .if1 .left) _ (e .before .u8-at2 .ensures) (e .if2 .left) _ (c .before .before .serve-config .ensures) _ (c .before .judge-pointed .ensures) (c .if3 .taken)
-
-firmware-overrides-requires : tie.Need-firmware-overrides-requires
-firmware-overrides-requires c κs = search needs
-
-judge-pointed-requires-2 : tie.Need-judge-pointed-requires-2
-judge-pointed-requires-2 c κs = search needs
 
 returns-4 : tie.Need-returns-4
 returns-4 c =
@@ -47,13 +29,13 @@ pub judge-set-header-spec : {M : Type 1} → statement M
 judge-set-header-spec =
     tie.close
     (tie.spec
-    u8-at-requires
+    (λ c κs. search needs)
     returns
-    u8-at-requires-2
+    (λ c κs. search needs)
     returns-2
-    serve-config-requires
-    judge-pointed-requires
+    (λ c κs. search needs)
+    (λ c κs. search needs)
     returns-3
-    firmware-overrides-requires
-    judge-pointed-requires-2
+    (λ c κs. search needs)
+    (λ c κs. search needs)
     returns-4)

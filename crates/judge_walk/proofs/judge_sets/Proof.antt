@@ -24,28 +24,13 @@ abbrev μ-loop : tie.MeasureT-loop
 loop-holds : tie.Need-loop-holds Inv-loop μ-loop
 loop-holds c = (omega arith, omega arith, refl, omega arith)
 
-judge-set-requires : tie.Need-judge-set-requires Inv-loop μ-loop
-judge-set-requires c κs = search needs
-
 returns : tie.Need-returns Inv-loop μ-loop
 returns c =
     let l = c .before .before .before .loop in
     walked-bad _ _ _ (sets-stop _ _ _ _ _ _ (c .before .before .loop-test .taken) _ (c .before .judge-set .ensures) (c .if1 .taken) ∙ l .inv .2) (c .if1 .taken)
 
-image-from-requires : tie.Need-image-from-requires Inv-loop μ-loop
-image-from-requires c κs = search needs
-
-u8-at-requires : tie.Need-u8-at-requires Inv-loop μ-loop
-u8-at-requires c κs = search needs
-
-cast-roms : tie.Need-cast-roms Inv-loop μ-loop
-cast-roms c = search needs
-
 add-roms : tie.Need-add-roms Inv-loop μ-loop
 add-roms c = omega arith
-
-set-stride-requires : tie.Need-set-stride-requires Inv-loop μ-loop
-set-stride-requires c κs = search needs
 
 add-address : tie.Need-add-address Inv-loop μ-loop
 add-address c = omega (arith, stride-bound (c .before .before .before .before .before .before .before .before .args .long) (c .before .before .image-from .result .now))
@@ -88,13 +73,13 @@ judge-sets-spec =
     Inv-loop
     μ-loop
     loop-holds
-    judge-set-requires
+    (λ c κs. search needs)
     returns
-    image-from-requires
-    u8-at-requires
-    cast-roms
+    (λ c κs. search needs)
+    (λ c κs. search needs)
+    (λ c. search needs)
     add-roms
-    set-stride-requires
+    (λ c κs. search needs)
     add-address
     sub-left
     loop-less

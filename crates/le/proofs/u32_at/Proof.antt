@@ -7,30 +7,6 @@ use Rattle.le.proofs.u32_at.Tie as tie
 returns : tie.Need-returns
 returns c = sym (u32-past (c .before .before .args .s .now) _ (c .if1 .taken))
 
-sub-t : tie.Need-sub-t
-sub-t c = search needs
-
-part-t-start : tie.Need-part-t-start
-part-t-start c = search needs
-
-part-t-end : tie.Need-part-t-end
-part-t-end c = search needs
-
-u8-at-requires : tie.Need-u8-at-requires
-u8-at-requires c κs = search needs
-
-u8-at-requires-2 : tie.Need-u8-at-requires-2
-u8-at-requires-2 c κs = search needs
-
-u8-at-requires-3 : tie.Need-u8-at-requires-3
-u8-at-requires-3 c κs = search needs
-
-u8-at-requires-4 : tie.Need-u8-at-requires-4
-u8-at-requires-4 c κs = search needs
-
-join32-requires : tie.Need-join32-requires
-join32-requires c κs = search needs
-
 returns-2 : tie.Need-returns-2
 returns-2 c =
     let entry = c .before .before .before .before .before .before .before .before .args in
@@ -43,12 +19,12 @@ u32-at-spec =
     tie.close
     (tie.spec
     returns
-    sub-t
-    part-t-start
-    part-t-end
-    u8-at-requires
-    u8-at-requires-2
-    u8-at-requires-3
-    u8-at-requires-4
-    join32-requires
+    (λ c. search needs)
+    (λ c. search needs)
+    (λ c. search needs)
+    (λ c κs. search needs)
+    (λ c κs. search needs)
+    (λ c κs. search needs)
+    (λ c κs. search needs)
+    (λ c κs. search needs)
     returns-2)

@@ -7,18 +7,6 @@ use Rattle.mangle.specs.Laws.Words.{word-core}
 use Rattle.mangle.proofs.mangle_core.Statement.{statement}
 use Rattle.mangle.proofs.mangle_core.Tie as tie
 
-least-pin-requires : tie.Need-least-pin-requires
-least-pin-requires c κs = search needs
-
-control-least-requires : tie.Need-control-least-requires
-control-least-requires c κs = search needs
-
-levels-requires : tie.Need-levels-requires
-levels-requires c κs = search needs
-
-input-word-requires : tie.Need-input-word-requires
-input-word-requires c κs = search needs
-
 address-pins-requires : tie.Need-address-pins-requires
 address-pins-requires c κs =
     let l = c .before .before .before .before in
@@ -40,10 +28,10 @@ pub mangle-core-spec : {M : Type 1} → statement M
 mangle-core-spec =
     tie.close
     (tie.spec
-    least-pin-requires
-    control-least-requires
-    levels-requires
-    input-word-requires
+    (λ c κs. search needs)
+    (λ c κs. search needs)
+    (λ c κs. search needs)
+    (λ c κs. search needs)
     address-pins-requires
     mangle-word-requires
     returns)

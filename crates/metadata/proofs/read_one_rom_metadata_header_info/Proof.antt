@@ -5,24 +5,12 @@ use Rattle.metadata.specs.Laws.{metadata-front}
 use Rattle.metadata.proofs.read_one_rom_metadata_header_info.Statement.{statement}
 use Rattle.metadata.proofs.read_one_rom_metadata_header_info.Tie as tie
 
-pointer-number-requires : tie.Need-pointer-number-requires
-pointer-number-requires c κs = search needs
-
-refuse-requires : tie.Need-refuse-requires
-refuse-requires c κs = search needs
-
 returns : tie.Need-returns
 unfolding metadataP
 returns c =
     let a = c .before .before .before .before .args in
     let number = c .before .before .pointer-number in
     pointer-refused (a .image .now) (a .base) (a .ptr) 256 refusedMetadata metadataOf metadata-front (number .result) (number .ensures) (c .refuse .result) (search needs) (c .refuse .ensures)
-
-image-from-requires : tie.Need-image-from-requires
-image-from-requires c κs = search needs
-
-parse-metadata-requires : tie.Need-parse-metadata-requires
-parse-metadata-requires c κs = search needs
 
 returns-2 : tie.Need-returns-2
 unfolding metadataP
@@ -34,4 +22,4 @@ returns-2 c =
 
 pub read-one-rom-metadata-header-info-spec : {M : Type 1} → statement M
 read-one-rom-metadata-header-info-spec =
-    tie.close (tie.spec pointer-number-requires refuse-requires returns image-from-requires parse-metadata-requires returns-2)
+    tie.close (tie.spec (λ c κs. search needs) (λ c κs. search needs) returns (λ c κs. search needs) (λ c κs. search needs) returns-2)

@@ -14,29 +14,8 @@ Inv-loop addr map₀ i₀ map i = (i ≤ 16) × (length map ≡ 16) × (withAddr
 abbrev μ-loop : tie.MeasureT-loop
 μ-loop addr map₀ i₀ map i = 16 - i
 
-unmapped-requires : tie.Need-unmapped-requires Inv-loop μ-loop
-unmapped-requires c κs = search needs
-
 loop-holds : tie.Need-loop-holds Inv-loop μ-loop
 loop-holds c = (omega arith, rw (c .unmapped .ensures) refl, rw (c .unmapped .ensures) refl)
-
-slice-aggregate-put : tie.Need-slice-aggregate-put Inv-loop μ-loop
-slice-aggregate-put c = search needs
-
-array-read-put : tie.Need-array-read-put Inv-loop μ-loop
-array-read-put c = search needs
-
-cast-put : tie.Need-cast-put Inv-loop μ-loop
-cast-put c = search needs
-
-put-requires : tie.Need-put-requires Inv-loop μ-loop
-put-requires c κs = search needs
-
-add-i : tie.Need-add-i Inv-loop μ-loop
-add-i c = search needs
-
-loop-less : tie.Need-loop-less Inv-loop μ-loop
-loop-less c = search needs
 
 loop-again : tie.Need-loop-again Inv-loop μ-loop
 loop-again c =
@@ -59,13 +38,13 @@ address-map-spec =
     (tie.spec
     Inv-loop
     μ-loop
-    unmapped-requires
+    (λ c κs. search needs)
     loop-holds
-    slice-aggregate-put
-    array-read-put
-    cast-put
-    put-requires
-    add-i
-    loop-less
+    (λ c. search needs)
+    (λ c. search needs)
+    (λ c. search needs)
+    (λ c κs. search needs)
+    (λ c. search needs)
+    (λ c. search needs)
     loop-again
     returns)

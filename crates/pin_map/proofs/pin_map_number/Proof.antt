@@ -5,19 +5,10 @@ use Rattle.mangle.specs.Laws.Words.{word-number}
 use Rattle.pin_map.proofs.pin_map_number.Statement.{statement}
 use Rattle.pin_map.proofs.pin_map_number.Tie as tie
 
-least-pin-requires : tie.Need-least-pin-requires
-least-pin-requires c κs = search needs
-
-control-least-requires : tie.Need-control-least-requires
-control-least-requires c κs = search needs
-
 address-pins-requires : tie.Need-address-pins-requires
 address-pins-requires c κs =
     let l = c .before .before in
     rw (l .least-pin .ensures) (least-from (l .before .args .pins))
-
-map-number-requires : tie.Need-map-number-requires
-map-number-requires c κs = search needs
 
 returns : tie.Need-returns
 unfolding baseZero loweredBy
@@ -31,8 +22,8 @@ pub pin-map-number-spec : {M : Type 1} → statement M
 pin-map-number-spec =
     tie.close
     (tie.spec
-    least-pin-requires
-    control-least-requires
+    (λ c κs. search needs)
+    (λ c κs. search needs)
     address-pins-requires
-    map-number-requires
+    (λ c κs. search needs)
     returns)

@@ -4,23 +4,11 @@ use Rattle.mangle.specs.PinMap.{wholeMap}
 use Rattle.pin_map.proofs.whole_map.Statement.{statement}
 use Rattle.pin_map.proofs.whole_map.Tie as tie
 
-control-bits-requires : tie.Need-control-bits-requires
-control-bits-requires c κs = search needs
-
-with-x-requires : tie.Need-with-x-requires
-with-x-requires c κs = search needs
-
-with-controls-requires : tie.Need-with-controls-requires
-with-controls-requires c κs = search needs
-
 returns : tie.Need-returns
 unfolding wholeMap
 returns c =
     let t = c .before .before in
     rw (le-leb 2 (t .before .before .args .rom-count) (t .if1 .taken), c .with-controls .ensures, c .before .with-x .ensures, t .before .control-bits .ensures)
-
-with-controls-requires-2 : tie.Need-with-controls-requires-2
-with-controls-requires-2 c κs = search needs
 
 returns-2 : tie.Need-returns-2
 unfolding wholeMap
@@ -32,9 +20,9 @@ pub whole-map-spec : {M : Type 1} → statement M
 whole-map-spec =
     tie.close
     (tie.spec
-    control-bits-requires
-    with-x-requires
-    with-controls-requires
+    (λ c κs. search needs)
+    (λ c κs. search needs)
+    (λ c κs. search needs)
     returns
-    with-controls-requires-2
+    (λ c κs. search needs)
     returns-2)

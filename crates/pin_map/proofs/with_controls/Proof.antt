@@ -17,24 +17,6 @@ abbrev μ-loop : tie.MeasureT-loop
 loop-holds : tie.Need-loop-holds Inv-loop μ-loop
 loop-holds c = (omega arith, search needs, refl)
 
-slice-aggregate-put-control : tie.Need-slice-aggregate-put-control Inv-loop μ-loop
-slice-aggregate-put-control c = search needs
-
-array-read-put-control : tie.Need-array-read-put-control Inv-loop μ-loop
-array-read-put-control c = search needs
-
-array-read-put-control-2 : tie.Need-array-read-put-control-2 Inv-loop μ-loop
-array-read-put-control-2 c = search needs
-
-put-control-requires : tie.Need-put-control-requires Inv-loop μ-loop
-put-control-requires c κs = search needs
-
-add-i : tie.Need-add-i Inv-loop μ-loop
-add-i c = search needs
-
-loop-less : tie.Need-loop-less Inv-loop μ-loop
-loop-less c = search needs
-
 loop-again : tie.Need-loop-again Inv-loop μ-loop
 loop-again c =
     let l = c .before .before .before .before .loop in
@@ -59,11 +41,11 @@ with-controls-spec =
     Inv-loop
     μ-loop
     loop-holds
-    slice-aggregate-put-control
-    array-read-put-control
-    array-read-put-control-2
-    put-control-requires
-    add-i
-    loop-less
+    (λ c. search needs)
+    (λ c. search needs)
+    (λ c. search needs)
+    (λ c κs. search needs)
+    (λ c. search needs)
+    (λ c. search needs)
     loop-again
     returns)

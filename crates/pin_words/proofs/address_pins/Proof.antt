@@ -19,12 +19,6 @@ sixteen c = search needs
 from : (c : lts.Start (limit-reads.Asked, limit-reads.Learnt, one-pin-reads.Asked, one-pin-reads.Learnt) reads.Pre reads.Post) (i : ℕ) → i < 16 → c .args .m ≤ getD (c .args .t2) i 0
 from c i h = c .pre i (rw (sixteen c) h)
 
-limit-requires : tie.Need-limit-requires
-limit-requires c κs = search needs
-
-add-top : tie.Need-add-top
-add-top c = search needs
-
 one-pin-requires : tie.Need-one-pin-requires
 one-pin-requires c κs = (c .limit .ensures, omega arith, omega arith, omega arith, from (c .before) 0 (omega arith), refl)
 
@@ -117,8 +111,8 @@ pub address-pins-spec : {M : Type 1} → statement M
 address-pins-spec =
     tie.close
     (tie.spec
-    limit-requires
-    add-top
+    (λ c κs. search needs)
+    (λ c. search needs)
     (λ c. search needs)
     one-pin-requires
     (λ c. search needs)

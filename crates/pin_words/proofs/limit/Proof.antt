@@ -3,9 +3,6 @@ use borrow.Author.Tests.{lt-ltb, le-ltb}
 use Rattle.pin_words.proofs.limit.Statement.{statement}
 use Rattle.pin_words.proofs.limit.Tie as tie
 
-add-result : tie.Need-add-result
-add-result c = search needs
-
 returns : tie.Need-returns
 returns c = rw (lt-ltb (c .before .args .m) 239 (c .if1 .taken))
 
@@ -13,4 +10,4 @@ returns-2 : tie.Need-returns-2
 returns-2 c = rw (le-ltb (c .before .args .m) 239 (c .if1 .left))
 
 pub limit-spec : {M : Type 1} → statement M
-limit-spec = tie.close (tie.spec add-result returns returns-2)
+limit-spec = tie.close (tie.spec (λ c. search needs) returns returns-2)

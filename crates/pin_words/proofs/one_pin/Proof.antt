@@ -29,9 +29,6 @@ pin-bit-requires c κs =
     let e = s .pre .5 in
     (omega arith, omega arith)
 
-bit-of-requires : tie.Need-bit-of-requires
-bit-of-requires c κs = search needs
-
 with-level-requires : tie.Need-with-level-requires
 with-level-requires c κs =
     let a = c .before .before .before .args in
@@ -59,4 +56,4 @@ returns-2 c =
     )
 
 pub one-pin-spec : {M : Type 1} → statement M
-one-pin-spec = tie.close (tie.spec returns pin-bit-requires bit-of-requires with-level-requires returns-2)
+one-pin-spec = tie.close (tie.spec returns pin-bit-requires (λ c κs. search needs) with-level-requires returns-2)

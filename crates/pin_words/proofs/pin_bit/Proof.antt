@@ -5,12 +5,6 @@ use Rattle.pin_words.specs.Laws.{top-shr}
 use Rattle.pin_words.proofs.pin_bit.Statement.{statement}
 use Rattle.pin_words.proofs.pin_bit.Tie as tie
 
-sub-result : tie.Need-sub-result
-sub-result c = search needs
-
-shr-result : tie.Need-shr-result
-shr-result c = search needs
-
 returns : tie.Need-returns
 returns c =
     let a = c .args in
@@ -19,4 +13,4 @@ returns c =
     top-shr (a .pin + 15 - a .top) (a .top - a .pin) (omega arith)
 
 pub pin-bit-spec : {M : Type 1} → statement M
-pin-bit-spec = tie.close (tie.spec sub-result shr-result returns)
+pin-bit-spec = tie.close (tie.spec (λ c. search needs) (λ c. search needs) returns)

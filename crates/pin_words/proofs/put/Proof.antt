@@ -4,9 +4,6 @@ use Rattle.pin_words.specs.Code.{onPin}
 use Rattle.pin_words.proofs.put.Statement.{statement}
 use Rattle.pin_words.proofs.put.Tie as tie
 
-put-at-requires : tie.Need-put-at-requires
-put-at-requires c κs = search needs
-
 returns : tie.Need-returns
 returns c = c .put-at .ensures
 
@@ -15,4 +12,4 @@ unfolding onPin
 returns-2 c = rw (le-ltb (c .before .args .pin) 16 (c .if1 .left))
 
 pub put-spec : {M : Type 1} → statement M
-put-spec = tie.close (tie.spec put-at-requires returns returns-2)
+put-spec = tie.close (tie.spec (λ c κs. search needs) returns returns-2)

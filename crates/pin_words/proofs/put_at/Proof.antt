@@ -8,12 +8,6 @@ use Rattle.pin_words.specs.Laws.{level-bits, other-level, level-on}
 use Rattle.pin_words.proofs.put_at.Statement.{statement}
 use Rattle.pin_words.proofs.put_at.Tie as tie
 
-shl-result : tie.Need-shl-result
-shl-result c = search needs
-
-shl-result-2 : tie.Need-shl-result-2
-shl-result-2 c = search needs
-
 returns : tie.Need-returns
 returns c =
     let a = c .args in
@@ -21,4 +15,4 @@ returns c =
     (level-bits (a .v) (2 ^ a .pin) (a .b) (c .pre .2) ∙ level-on (a .v) (a .pin) (2 ^ a .pin) (a .b) (c .pre .1) refl)
 
 pub put-at-spec : {M : Type 1} → statement M
-put-at-spec = tie.close (tie.spec shl-result shl-result-2 returns)
+put-at-spec = tie.close (tie.spec (λ c. search needs) (λ c. search needs) returns)

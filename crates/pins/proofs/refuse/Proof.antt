@@ -5,13 +5,10 @@ use Rattle.pins.specs.declared.PinsItem.{PinsItem}
 use Rattle.pins.proofs.refuse.Statement.{statement}
 use Rattle.pins.proofs.refuse.Tie as tie
 
-no-pins-requires : tie.Need-no-pins-requires
-no-pins-requires c κs = search needs
-
 returns : tie.Need-returns
 returns c =
     let r : SdrrPins → PinsItem = λ p. record { number = c .before .args .number; pins = p } in
     ap r (c .no-pins .ensures)
 
 pub refuse-spec : {M : Type 1} → statement M
-refuse-spec = tie.close (tie.spec no-pins-requires returns)
+refuse-spec = tie.close (tie.spec (λ c κs. search needs) returns)

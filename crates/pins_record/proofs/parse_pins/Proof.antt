@@ -7,23 +7,11 @@ use Rattle.pins.specs.Laws.{pins-short, pins-unknown-port, pins-whole}
 use Rattle.pins_record.proofs.parse_pins.Statement.{statement}
 use Rattle.pins_record.proofs.parse_pins.Tie as tie
 
-refuse-requires : tie.Need-refuse-requires
-refuse-requires c κs = search needs
-
 returns : tie.Need-returns
 returns c = c .refuse .ensures ∙ sym (pins-short _ (omega arith))
 
-unknown-port-requires : tie.Need-unknown-port-requires
-unknown-port-requires c κs = search needs
-
-refuse-requires-2 : tie.Need-refuse-requires-2
-refuse-requires-2 c κs = search needs
-
 returns-2 : tie.Need-returns-2
 returns-2 c = c .refuse2 .ensures ∙ sym (pins-unknown-port _ (omega arith) (sym (c .before .before .unknown-port .ensures) ∙ c .before .if2 .taken))
-
-read-fields-requires : tie.Need-read-fields-requires
-read-fields-requires c κs = search needs
 
 returns-3 : tie.Need-returns-3
 returns-3 c =
@@ -34,10 +22,10 @@ pub parse-pins-spec : {M : Type 1} → statement M
 parse-pins-spec =
     tie.close
     (tie.spec
-    refuse-requires
+    (λ c κs. search needs)
     returns
-    unknown-port-requires
-    refuse-requires-2
+    (λ c κs. search needs)
+    (λ c κs. search needs)
     returns-2
-    read-fields-requires
+    (λ c κs. search needs)
     returns-3)

@@ -8,41 +8,20 @@ use Rattle.pins_record.proofs.read_fields.Tie as tie
 shared-slice-read-port-of : tie.Need-shared-slice-read-port-of
 shared-slice-read-port-of c = omega arith
 
-port-of-requires : tie.Need-port-of-requires
-port-of-requires c κs = search needs
-
 shared-slice-read-port-of-2 : tie.Need-shared-slice-read-port-of-2
 shared-slice-read-port-of-2 c = omega arith
-
-port-of-requires-2 : tie.Need-port-of-requires-2
-port-of-requires-2 c κs = search needs
 
 shared-slice-read-port-of-3 : tie.Need-shared-slice-read-port-of-3
 shared-slice-read-port-of-3 c = omega arith
 
-port-of-requires-3 : tie.Need-port-of-requires-3
-port-of-requires-3 c κs = search needs
-
 shared-slice-read-port-of-4 : tie.Need-shared-slice-read-port-of-4
 shared-slice-read-port-of-4 c = omega arith
-
-port-of-requires-4 : tie.Need-port-of-requires-4
-port-of-requires-4 c κs = search needs
 
 shared-slice-read-port-of-5 : tie.Need-shared-slice-read-port-of-5
 shared-slice-read-port-of-5 c = omega arith
 
-port-of-requires-5 : tie.Need-port-of-requires-5
-port-of-requires-5 c κs = search needs
-
 shared-slice-read-t18 : tie.Need-shared-slice-read-t18
 shared-slice-read-t18 c = omega arith
-
-eight-at-requires : tie.Need-eight-at-requires
-eight-at-requires c κs = search needs
-
-sixteen-at-requires : tie.Need-sixteen-at-requires
-sixteen-at-requires c κs = search needs
 
 shared-slice-read-t22 : tie.Need-shared-slice-read-t22
 shared-slice-read-t22 c = omega arith
@@ -113,12 +92,6 @@ shared-slice-read-t64 c = omega arith
 shared-slice-read-t66 : tie.Need-shared-slice-read-t66
 shared-slice-read-t66 c = omega arith
 
-second-data-requires : tie.Need-second-data-requires
-second-data-requires c κs = search needs
-
-second-addr-requires : tie.Need-second-addr-requires
-second-addr-requires c κs = search needs
-
 returns : tie.Need-returns
 unfolding pinsFields
 returns c =
@@ -171,18 +144,18 @@ read-fields-spec =
     tie.close
     (tie.spec
     shared-slice-read-port-of
-    port-of-requires
+    (λ c κs. search needs)
     shared-slice-read-port-of-2
-    port-of-requires-2
+    (λ c κs. search needs)
     shared-slice-read-port-of-3
-    port-of-requires-3
+    (λ c κs. search needs)
     shared-slice-read-port-of-4
-    port-of-requires-4
+    (λ c κs. search needs)
     shared-slice-read-port-of-5
-    port-of-requires-5
+    (λ c κs. search needs)
     shared-slice-read-t18
-    eight-at-requires
-    sixteen-at-requires
+    (λ c κs. search needs)
+    (λ c κs. search needs)
     shared-slice-read-t22
     shared-slice-read-t24
     shared-slice-read-t26
@@ -206,6 +179,6 @@ read-fields-spec =
     shared-slice-read-t62
     shared-slice-read-t64
     shared-slice-read-t66
-    second-data-requires
-    second-addr-requires
+    (λ c κs. search needs)
+    (λ c κs. search needs)
     returns)

@@ -5,24 +5,12 @@ use Rattle.pins.specs.Laws.{pins-front}
 use Rattle.pins_record.proofs.read_pins.Statement.{statement}
 use Rattle.pins_record.proofs.read_pins.Tie as tie
 
-pointer-number-requires : tie.Need-pointer-number-requires
-pointer-number-requires c κs = search needs
-
-refuse-requires : tie.Need-refuse-requires
-refuse-requires c κs = search needs
-
 returns : tie.Need-returns
 unfolding pinsP
 returns c =
     let a = c .before .before .before .before .args in
     let number = c .before .before .pointer-number in
     pointer-refused (a .image .now) (a .base) (a .ptr) 88 refusedPins pinsOf pins-front (number .result) (number .ensures) (c .refuse .result) (search needs) (c .refuse .ensures)
-
-image-from-requires : tie.Need-image-from-requires
-image-from-requires c κs = search needs
-
-parse-pins-requires : tie.Need-parse-pins-requires
-parse-pins-requires c κs = search needs
 
 returns-2 : tie.Need-returns-2
 unfolding pinsP
@@ -34,4 +22,4 @@ returns-2 c =
 
 pub read-pins-spec : {M : Type 1} → statement M
 read-pins-spec =
-    tie.close (tie.spec pointer-number-requires refuse-requires returns image-from-requires parse-pins-requires returns-2)
+    tie.close (tie.spec (λ c κs. search needs) (λ c κs. search needs) returns (λ c κs. search needs) (λ c κs. search needs) returns-2)

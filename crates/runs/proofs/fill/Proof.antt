@@ -29,9 +29,6 @@ loop-holds : tie.Need-loop-holds Inv-loop μ-loop
 unfolding firstBytes
 loop-holds c = (omega arith, refl, refl)
 
-u8-at-requires : tie.Need-u8-at-requires Inv-loop μ-loop
-u8-at-requires c κs = search needs
-
 slice-write-to : tie.Need-slice-write-to Inv-loop μ-loop
 slice-write-to c = omega arith
 
@@ -61,7 +58,7 @@ fill-spec =
     Inv-loop
     μ-loop
     loop-holds
-    u8-at-requires
+    (λ c κs. search needs)
     slice-write-to
     add-i
     loop-less

@@ -5,21 +5,9 @@ use Rattle.runtime_info.specs.Runtime.{group063Of}
 use Rattle.runtime_info.proofs.group_v063.Statement.{statement}
 use Rattle.runtime_info.proofs.group_v063.Tie as tie
 
-reaches-end-requires : tie.Need-reaches-end-requires
-reaches-end-requires c κs = search needs
-
 returns : tie.Need-returns
 unfolding group063Of
 returns c = rw (sym (c .before .reaches-end .ensures) ∙ not-true _ (c .if1 .taken))
-
-flag-at-requires : tie.Need-flag-at-requires
-flag-at-requires c κs = search needs
-
-u8-at-requires : tie.Need-u8-at-requires
-u8-at-requires c κs = search needs
-
-flag-at-requires-2 : tie.Need-flag-at-requires-2
-flag-at-requires-2 c κs = search needs
 
 returns-2 : tie.Need-returns-2
 unfolding group063Of
@@ -29,9 +17,9 @@ pub group-v063-spec : {M : Type 1} → statement M
 group-v063-spec =
     tie.close
     (tie.spec
-    reaches-end-requires
+    (λ c κs. search needs)
     returns
-    flag-at-requires
-    u8-at-requires
-    flag-at-requires-2
+    (λ c κs. search needs)
+    (λ c κs. search needs)
+    (λ c κs. search needs)
     returns-2)

@@ -14,20 +14,11 @@ returns : tie.Need-returns
 unfolding runtimeHeader
 returns c = rw (lt-ltb _ _ (c .if1 .taken))
 
-slice-aggregate-starts-with : tie.Need-slice-aggregate-starts-with
-slice-aggregate-starts-with c = search needs
-
-starts-with-requires : tie.Need-starts-with-requires
-starts-with-requires c κs = search needs
-
 returns-2 : tie.Need-returns-2
 unfolding runtimeHeader
 returns-2 c =
     let e : startsWith (c .before .before .before .before .before .args .«data» .now) runtimeMagic ≡ false = sym (c .before .starts-with .ensures) ∙ not-true _ (c .if2 .taken) in
     rw (le-ltb _ _ (c .before .before .before .if1 .left), e)
-
-u8-at-requires : tie.Need-u8-at-requires
-u8-at-requires c κs = search needs
 
 returns-3 : tie.Need-returns-3
 unfolding runtimeHeader
@@ -46,9 +37,6 @@ returns-4 c =
     let high : 20 ≤ c .before .before .u8-at .result = omega arith in
     rw (le-ltb _ _ (c .before .before .before .before .before .before .if1 .left), e, ← c .before .before .u8-at .ensures, le-ltb _ _ high, lt-ltb _ _ over)
 
-read-head-requires : tie.Need-read-head-requires
-read-head-requires c κs = search needs
-
 returns-5 : tie.Need-returns-5
 unfolding runtimeHeader
 returns-5 c =
@@ -63,11 +51,11 @@ parse-and-validate-runtime-info-spec =
     tie.close
     (tie.spec
     returns
-    slice-aggregate-starts-with
-    starts-with-requires
+    (λ c. search needs)
+    (λ c κs. search needs)
     returns-2
-    u8-at-requires
+    (λ c κs. search needs)
     returns-3
     returns-4
-    read-head-requires
+    (λ c κs. search needs)
     returns-5)

@@ -5,18 +5,6 @@ use Rattle.runtime_info.specs.Runtime.{withFields, runtimeFields}
 use Rattle.runtime_info.proofs.parse_ram.Statement.{statement}
 use Rattle.runtime_info.proofs.parse_ram.Tie as tie
 
-parse-and-validate-runtime-info-requires : tie.Need-parse-and-validate-runtime-info-requires
-parse-and-validate-runtime-info-requires c κs = search needs
-
-enum-known-number : tie.Need-enum-known-number
-enum-known-number c = search needs
-
-enum-known-head : tie.Need-enum-known-head
-enum-known-head c = search needs
-
-parse-runtime-versioned-fields-requires : tie.Need-parse-runtime-versioned-fields-requires
-parse-runtime-versioned-fields-requires c κs = search needs
-
 returns : tie.Need-returns
 returns c =
     let s = c .before .before .before .before .before .args .«data» .now in
@@ -33,9 +21,9 @@ pub parse-ram-spec : {M : Type 1} → statement M
 parse-ram-spec =
     tie.close
     (tie.spec
-    parse-and-validate-runtime-info-requires
-    enum-known-number
-    enum-known-head
-    parse-runtime-versioned-fields-requires
+    (λ c κs. search needs)
+    (λ c. search needs)
+    (λ c. search needs)
+    (λ c κs. search needs)
     returns
     returns-2)

@@ -4,18 +4,6 @@ use Rattle.runtime_info.specs.Words.{words067}
 use Rattle.runtime_words.proofs.v067_words.Statement.{statement}
 use Rattle.runtime_words.proofs.v067_words.Tie as tie
 
-enum-known-g : tie.Need-enum-known-g
-enum-known-g c = search needs
-
-cast-t4 : tie.Need-cast-t4
-cast-t4 c = search needs
-
-cast-t5 : tie.Need-cast-t5
-cast-t5 c = search needs
-
-enum-told : tie.Need-enum-told
-enum-told c = search needs
-
 returns : tie.Need-returns
 unfolding words067
 returns c = rw (c .before .before .before .g .given .1)
@@ -25,4 +13,4 @@ unfolding words067
 returns-2 c = sym (ap words067 (c .enum-told .given .1))
 
 pub v067-words-spec : {M : Type 1} → statement M
-v067-words-spec = tie.close (tie.spec enum-known-g cast-t4 cast-t5 enum-told returns returns-2)
+v067-words-spec = tie.close (tie.spec (λ c. search needs) (λ c. search needs) (λ c. search needs) (λ c. search needs) returns returns-2)

@@ -8,29 +8,11 @@ use Rattle.rows.specs.LentRows.{romWidth}
 use Rattle.same_set.proofs.from_row.Statement.{statement}
 use Rattle.same_set.proofs.from_row.Tie as tie
 
-mul-at : tie.Need-mul-at
-mul-at c = search needs
-
-slice-aggregate-result : tie.Need-slice-aggregate-result
-slice-aggregate-result c = search needs
-
 returns : tie.Need-returns
 returns c =
     let entry = c .before .before .args in
     let past : length (entry .rom-rows .now) ≤ romWidth * entry .row = omega arith in
     sym (drop-of-length-le (entry .rom-rows .now) past)
-
-mul-result : tie.Need-mul-result
-mul-result c = search needs
-
-sub-result : tie.Need-sub-result
-sub-result c = search needs
-
-part-result-start : tie.Need-part-result-start
-part-result-start c = search needs
-
-part-result-end : tie.Need-part-result-end
-part-result-end c = search needs
 
 returns-2 : tie.Need-returns-2
 returns-2 c = onward (romWidth * c .before .before .args .row) (c .before .before .args .rom-rows .now)
@@ -39,11 +21,11 @@ pub from-row-spec : {M : Type 1} → statement M
 from-row-spec =
     tie.close
     (tie.spec
-    mul-at
-    slice-aggregate-result
+    (λ c. search needs)
+    (λ c. search needs)
     returns
-    mul-result
-    sub-result
-    part-result-start
-    part-result-end
+    (λ c. search needs)
+    (λ c. search needs)
+    (λ c. search needs)
+    (λ c. search needs)
     returns-2)

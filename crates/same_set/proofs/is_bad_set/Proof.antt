@@ -9,17 +9,11 @@ use Rattle.same_set.specs.Laws.{bad-row, bad-empty, bad-short, bad-types
 use Rattle.same_set.proofs.is_bad_set.Statement.{statement}
 use Rattle.same_set.proofs.is_bad_set.Tie as tie
 
-has-set-row-requires : tie.Need-has-set-row-requires
-has-set-row-requires c κs = search needs
-
 returns : tie.Need-returns
 returns c =
     let row = c .before in
     let entry = row .before .before .before .args in
     bad-row (entry .set-rows .now) (entry .rom-rows .now) (entry .set) (sym (row .has-set-row .ensures) ∙ not-true _ (c .if1 .taken))
-
-set-word-requires : tie.Need-set-word-requires
-set-word-requires c κs = search needs
 
 returns-2 : tie.Need-returns-2
 returns-2 c =
@@ -27,21 +21,6 @@ returns-2 c =
     let row = has .before in
     let entry = row .before .before .before .args in
     bad-empty (entry .set-rows .now) (entry .rom-rows .now) (entry .set) (sym (row .has-set-row .ensures) ∙ not-false _ (has .if1 .left)) (sym (c .before .set-word .ensures) ∙ c .if2 .taken)
-
-set-word-requires-2 : tie.Need-set-word-requires-2
-set-word-requires-2 c κs = search needs
-
-cast-if3 : tie.Need-cast-if3
-cast-if3 c = search needs
-
-cast-if3-2 : tie.Need-cast-if3-2
-cast-if3-2 c = search needs
-
-add-if3 : tie.Need-add-if3
-add-if3 c = search needs
-
-mul-if3 : tie.Need-mul-if3
-mul-if3 c = search needs
 
 returns-3 : tie.Need-returns-3
 returns-3 c =
@@ -54,9 +33,6 @@ returns-3 c =
     let none : count ≡ 0 → ⊥ = λ z. some .if2 .left (some .before .set-word .ensures ∙ z) in
     let short : length (entry .rom-rows .now) < romWidth * (first + count) = omega (arith, some .before .set-word .ensures, c .before .set-word2 .ensures) in
     bad-short (entry .set-rows .now) (entry .rom-rows .now) (entry .set) (sym (row .has-set-row .ensures) ∙ not-false _ (has .if1 .left)) none short
-
-from-row-requires : tie.Need-from-row-requires
-from-row-requires c κs = search needs
 
 any-above-33-requires : tie.Need-any-above-33-requires
 any-above-33-requires c κs =
@@ -81,16 +57,16 @@ pub is-bad-set-spec : {M : Type 1} → statement M
 is-bad-set-spec =
     tie.close
     (tie.spec
-    has-set-row-requires
+    (λ c κs. search needs)
     returns
-    set-word-requires
+    (λ c κs. search needs)
     returns-2
-    set-word-requires-2
-    cast-if3
-    cast-if3-2
-    add-if3
-    mul-if3
+    (λ c κs. search needs)
+    (λ c. search needs)
+    (λ c. search needs)
+    (λ c. search needs)
+    (λ c. search needs)
     returns-3
-    from-row-requires
+    (λ c κs. search needs)
     any-above-33-requires
     returns-4)

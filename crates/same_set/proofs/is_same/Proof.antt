@@ -6,22 +6,10 @@ use Rattle.same_set.specs.Laws.{enough-rows, differ-size, differ-count, 
 use Rattle.same_set.proofs.is_same.Statement.{statement}
 use Rattle.same_set.proofs.is_same.Tie as tie
 
-set-word-requires : tie.Need-set-word-requires
-set-word-requires c κs = search needs
-
-set-word-requires-2 : tie.Need-set-word-requires-2
-set-word-requires-2 c κs = search needs
-
 returns : tie.Need-returns
 returns c =
     let entry = c .before .before .before .before .before .args in
     differ-size (entry .set-rows .now) (entry .rom-rows .now) (entry .a) (entry .b) (λ e. c .if1 .taken (c .before .before .set-word .ensures ∙ e ∙ sym (c .before .set-word2 .ensures)))
-
-set-word-requires-3 : tie.Need-set-word-requires-3
-set-word-requires-3 c κs = search needs
-
-set-word-requires-4 : tie.Need-set-word-requires-4
-set-word-requires-4 c κs = search needs
 
 returns-2 : tie.Need-returns-2
 returns-2 c =
@@ -29,12 +17,6 @@ returns-2 c =
     let entry = sized .before .before .before .before .before .args in
     let sizes : sizeOf (entry .set-rows .now) (entry .a) ≡ sizeOf (entry .set-rows .now) (entry .b) = omega arith in
     differ-count (entry .set-rows .now) (entry .rom-rows .now) (entry .a) (entry .b) sizes (λ e. c .if2 .taken (c .before .before .set-word3 .ensures ∙ e ∙ sym (c .before .set-word4 .ensures)))
-
-set-word-requires-5 : tie.Need-set-word-requires-5
-set-word-requires-5 c κs = search needs
-
-set-word-requires-6 : tie.Need-set-word-requires-6
-set-word-requires-6 c κs = search needs
 
 returns-3 : tie.Need-returns-3
 returns-3 c =
@@ -44,18 +26,6 @@ returns-3 c =
     let sizes : sizeOf (entry .set-rows .now) (entry .a) ≡ sizeOf (entry .set-rows .now) (entry .b) = omega arith in
     let counts : romCount (entry .set-rows .now) (entry .a) ≡ romCount (entry .set-rows .now) (entry .b) = omega arith in
     differ-serve (entry .set-rows .now) (entry .rom-rows .now) (entry .a) (entry .b) sizes counts (λ e. c .if3 .taken (c .before .before .set-word5 .ensures ∙ e ∙ sym (c .before .set-word6 .ensures)))
-
-set-word-requires-7 : tie.Need-set-word-requires-7
-set-word-requires-7 c κs = search needs
-
-from-row-requires : tie.Need-from-row-requires
-from-row-requires c κs = search needs
-
-set-word-requires-8 : tie.Need-set-word-requires-8
-set-word-requires-8 c κs = search needs
-
-from-row-requires-2 : tie.Need-from-row-requires-2
-from-row-requires-2 c κs = search needs
 
 same-types-requires : tie.Need-same-types-requires
 same-types-requires c κs =
@@ -94,18 +64,18 @@ pub is-same-spec : {M : Type 1} → statement M
 is-same-spec =
     tie.close
     (tie.spec
-    set-word-requires
-    set-word-requires-2
+    (λ c κs. search needs)
+    (λ c κs. search needs)
     returns
-    set-word-requires-3
-    set-word-requires-4
+    (λ c κs. search needs)
+    (λ c κs. search needs)
     returns-2
-    set-word-requires-5
-    set-word-requires-6
+    (λ c κs. search needs)
+    (λ c κs. search needs)
     returns-3
-    set-word-requires-7
-    from-row-requires
-    set-word-requires-8
-    from-row-requires-2
+    (λ c κs. search needs)
+    (λ c κs. search needs)
+    (λ c κs. search needs)
+    (λ c κs. search needs)
     same-types-requires
     returns-4)

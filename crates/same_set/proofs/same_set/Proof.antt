@@ -4,27 +4,15 @@ use Rattle.same_set.specs.Laws.{no-first, no-second, bad-first, bad-seco
 use Rattle.same_set.proofs.same_set.Statement.{statement}
 use Rattle.same_set.proofs.same_set.Tie as tie
 
-refuse-requires : tie.Need-refuse-requires
-refuse-requires c κs = search needs
-
 returns : tie.Need-returns
 returns c =
     let entry = c .before .before .before .before .args in
     c .refuse .ensures ∙ no-first (entry .served) (entry .set-rows .now) (entry .rom-rows .now) (entry .a) (entry .b) (c .before .if1 .taken)
 
-refuse-requires-2 : tie.Need-refuse-requires-2
-refuse-requires-2 c κs = search needs
-
 returns-2 : tie.Need-returns-2
 returns-2 c =
     let entry = c .before .before .before .before .before .args in
     c .refuse2 .ensures ∙ no-second (entry .served) (entry .set-rows .now) (entry .rom-rows .now) (entry .a) (entry .b) (c .before .before .if1 .left) (c .before .if2 .taken)
-
-is-bad-set-requires : tie.Need-is-bad-set-requires
-is-bad-set-requires c κs = search needs
-
-refuse-requires-3 : tie.Need-refuse-requires-3
-refuse-requires-3 c κs = search needs
 
 returns-3 : tie.Need-returns-3
 returns-3 c =
@@ -32,12 +20,6 @@ returns-3 c =
     let entry = set .before .before .before .before .args in
     c .refuse3 .ensures
     ∙ bad-first (entry .served) (entry .set-rows .now) (entry .rom-rows .now) (entry .a) (entry .b) (set .before .if1 .left) (set .if2 .left) (sym (c .before .before .is-bad-set .ensures) ∙ c .before .if3 .taken)
-
-is-bad-set-requires-2 : tie.Need-is-bad-set-requires-2
-is-bad-set-requires-2 c κs = search needs
-
-refuse-requires-4 : tie.Need-refuse-requires-4
-refuse-requires-4 c κs = search needs
 
 returns-4 : tie.Need-returns-4
 returns-4 c =
@@ -75,15 +57,15 @@ pub same-set-spec : {M : Type 1} → statement M
 same-set-spec =
     tie.close
     (tie.spec
-    refuse-requires
+    (λ c κs. search needs)
     returns
-    refuse-requires-2
+    (λ c κs. search needs)
     returns-2
-    is-bad-set-requires
-    refuse-requires-3
+    (λ c κs. search needs)
+    (λ c κs. search needs)
     returns-3
-    is-bad-set-requires-2
-    refuse-requires-4
+    (λ c κs. search needs)
+    (λ c κs. search needs)
     returns-4
     is-same-requires
     returns-5

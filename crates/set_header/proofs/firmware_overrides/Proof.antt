@@ -3,17 +3,8 @@ use Rattle.set_header.proofs.Steps.{pointer-read}
 use Rattle.set_header.proofs.firmware_overrides.Statement.{statement}
 use Rattle.set_header.proofs.firmware_overrides.Tie as tie
 
-u8-at-requires : tie.Need-u8-at-requires
-u8-at-requires c κs = search needs
-
-u32-at-requires : tie.Need-u32-at-requires
-u32-at-requires c κs = search needs
-
-pointed-at-requires : tie.Need-pointed-at-requires
-pointed-at-requires c κs = search needs
-
 returns : tie.Need-returns
 returns c = pointer-read (c .before .before .before .before .args .s .now) _ (c .before .before .u8-at .ensures) 20 _ _ (c .before .u32-at .ensures) (c .pointed-at .ensures)
 
 pub firmware-overrides-spec : {M : Type 1} → statement M
-firmware-overrides-spec = tie.close (tie.spec u8-at-requires u32-at-requires pointed-at-requires returns)
+firmware-overrides-spec = tie.close (tie.spec (λ c κs. search needs) (λ c κs. search needs) (λ c κs. search needs) returns)

@@ -3,12 +3,6 @@ use Rattle.set_header.proofs.Steps.{pointed-there, pointed-absent}
 use Rattle.set_header.proofs.pointed_at.Statement.{statement}
 use Rattle.set_header.proofs.pointed_at.Tie as tie
 
-both-requires : tie.Need-both-requires
-both-requires c κs = search needs
-
-both-requires-2 : tie.Need-both-requires-2
-both-requires-2 c κs = search needs
-
 returns : tie.Need-returns
 returns c = pointed-there _ (c .before .before .before .args .ptr) _ _ (c .before .before .both .ensures) (c .before .both2 .ensures) (c .if1 .taken)
 
@@ -16,4 +10,4 @@ returns-2 : tie.Need-returns-2
 returns-2 c = pointed-absent _ (c .before .before .before .args .ptr) _ _ (c .before .before .both .ensures) (c .before .both2 .ensures) (c .if1 .left)
 
 pub pointed-at-spec : {M : Type 1} → statement M
-pointed-at-spec = tie.close (tie.spec both-requires both-requires-2 returns returns-2)
+pointed-at-spec = tie.close (tie.spec (λ c κs. search needs) (λ c κs. search needs) returns returns-2)

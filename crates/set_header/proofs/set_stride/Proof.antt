@@ -3,12 +3,6 @@ use Rattle.set_header.proofs.Steps.{stride-long, stride-short}
 use Rattle.set_header.proofs.set_stride.Statement.{statement}
 use Rattle.set_header.proofs.set_stride.Tie as tie
 
-u8-at-requires : tie.Need-u8-at-requires
-u8-at-requires c κs = search needs
-
-both-requires : tie.Need-both-requires
-both-requires c κs = search needs
-
 returns : tie.Need-returns
 returns c =
     let entry = c .before .before .before .before .args in
@@ -20,4 +14,4 @@ returns-2 c =
     stride-short (entry .s .now) _ (c .before .before .u8-at .ensures) (entry .long) _ (c .before .both .ensures) (c .if1 .left)
 
 pub set-stride-spec : {M : Type 1} → statement M
-set-stride-spec = tie.close (tie.spec u8-at-requires both-requires returns returns-2)
+set-stride-spec = tie.close (tie.spec (λ c κs. search needs) (λ c κs. search needs) returns returns-2)

@@ -9,15 +9,6 @@ returns c =
     let l = by-ended (a .image .now) (a .base) (a .fields) (a .source) (a .set-rows .now) (a .rom-rows .now) (c .if1 .taken) in
     (l .reply, (l .set-rows, l .rom-rows))
 
-read-rom-sets-requires : tie.Need-read-rom-sets-requires
-read-rom-sets-requires c κs = search needs
-
-same-length : tie.Need-same-length
-same-length c = search needs
-
-same-length-2 : tie.Need-same-length-2
-same-length-2 c = search needs
-
 returns-2 : tie.Need-returns-2
 returns-2 c =
     let w = c .before .before .before .before in
@@ -28,4 +19,4 @@ returns-2 c =
 
 pub walk-sets-spec : {M : Type 1} → statement M
 walk-sets-spec =
-    tie.close (tie.spec returns read-rom-sets-requires same-length same-length-2 returns-2)
+    tie.close (tie.spec returns (λ c κs. search needs) (λ c. search needs) (λ c. search needs) returns-2)

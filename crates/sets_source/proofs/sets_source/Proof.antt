@@ -8,16 +8,10 @@ use Rattle.sets_source.specs.Laws.{not-looked-for, looked-for}
 use Rattle.sets_source.proofs.sets_source.Statement.{statement}
 use Rattle.sets_source.proofs.sets_source.Tie as tie
 
-from-0-5-0-requires : tie.Need-from-0-5-0-requires
-from-0-5-0-requires c κs = search needs
-
 returns : tie.Need-returns
 returns c =
     let entry = c .before .before .before .before .args in
     sym (ap (λ (l : Looked). sourceOf (entry .header) l) (not-looked-for (entry .image .now) (entry .base) (entry .header) (sym (c .before .from-0-5-0 .ensures) ∙ not-true _ (c .if1 .taken))))
-
-read-one-rom-metadata-header-info-requires : tie.Need-read-one-rom-metadata-header-info-requires
-read-one-rom-metadata-header-info-requires c κs = search needs
 
 returns-2 : tie.Need-returns-2
 returns-2 c =
@@ -29,4 +23,4 @@ returns-2 c =
 pub sets-source-spec : {M : Type 1} → statement M
 sets-source-spec =
     tie.close
-    (tie.spec from-0-5-0-requires returns read-one-rom-metadata-header-info-requires returns-2)
+    (tie.spec (λ c κs. search needs) returns (λ c κs. search needs) returns-2)

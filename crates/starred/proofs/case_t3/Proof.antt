@@ -4,18 +4,6 @@ use Rattle.starred.specs.Table.{Case, starred}
 use Rattle.starred.proofs.case_t3.Statement.{statement}
 use Rattle.starred.proofs.case_t3.Tie as tie
 
-array-write-image : tie.Need-array-write-image
-array-write-image c = search needs
-
-array-write-image-2 : tie.Need-array-write-image-2
-array-write-image-2 c = search needs
-
-slice-aggregate-string-answer : tie.Need-slice-aggregate-string-answer
-slice-aggregate-string-answer c = search needs
-
-string-answer-requires : tie.Need-string-answer-requires
-string-answer-requires c κs = search needs
-
 returns : tie.Need-returns
 returns c = c .string-answer .ensures ∙ starred Case.T3
 
@@ -23,8 +11,8 @@ pub case-t3-spec : {M : Type 1} → statement M
 case-t3-spec =
     tie.close
     (tie.spec
-    array-write-image
-    array-write-image-2
-    slice-aggregate-string-answer
-    string-answer-requires
+    (λ c. search needs)
+    (λ c. search needs)
+    (λ c. search needs)
+    (λ c κs. search needs)
     returns)

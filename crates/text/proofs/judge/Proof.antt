@@ -6,28 +6,10 @@ use Rattle.text.proofs.Steps.{judged-good, judged-bad, handed-back}
 use Rattle.text.proofs.judge.Statement.{statement}
 use Rattle.text.proofs.judge.Tie as tie
 
-add-part : tie.Need-add-part
-add-part c = search needs
-
-sub-part : tie.Need-sub-part
-sub-part c = search needs
-
-part-part-start : tie.Need-part-part-start
-part-part-start c = search needs
-
-part-part-end : tie.Need-part-part-end
-part-part-end c = search needs
-
-is-utf8-requires : tie.Need-is-utf8-requires
-is-utf8-requires c κs = search needs
-
 returns : tie.Need-returns
 returns c =
     let a = c .before .before .before .before .args in
     handed-back _ _ _ (part (a .offset) (a .n) (a .image .now), refl) (sym (judged-good _ _ _ (omega arith) (sym (c .if1 .taken) ∙ c .before .is-utf8 .ensures)))
-
-no-part-requires : tie.Need-no-part-requires
-no-part-requires c κs = search needs
 
 returns-2 : tie.Need-returns-2
 returns-2 c =
@@ -37,11 +19,11 @@ pub judge-spec : {M : Type 1} → statement M
 judge-spec =
     tie.close
     (tie.spec
-    add-part
-    sub-part
-    part-part-start
-    part-part-end
-    is-utf8-requires
+    (λ c. search needs)
+    (λ c. search needs)
+    (λ c. search needs)
+    (λ c. search needs)
+    (λ c κs. search needs)
     returns
-    no-part-requires
+    (λ c κs. search needs)
     returns-2)

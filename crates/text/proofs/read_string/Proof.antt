@@ -17,9 +17,6 @@ Inv-loop image base ptr number₀ offset n₀ number n = (n ≤ 1024) × Rest im
 abbrev μ-loop : tie.MeasureT-loop
 μ-loop image base ptr number₀ offset n₀ number n = 1024 - n
 
-no-part-requires : tie.Need-no-part-requires Inv-loop μ-loop
-no-part-requires c κs = search needs
-
 returns : tie.Need-returns Inv-loop μ-loop
 returns c = handed-back _ _ _ (c .no-part .ensures) (sym (text-below _ _ _ (omega arith)))
 
@@ -31,12 +28,6 @@ loop-holds c = (omega arith, rest-start _ _ _ (omega arith))
 
 add-can-read : tie.Need-add-can-read Inv-loop μ-loop
 add-can-read c = omega arith
-
-can-read-requires : tie.Need-can-read-requires Inv-loop μ-loop
-can-read-requires c κs = search needs
-
-no-part-requires-2 : tie.Need-no-part-requires-2 Inv-loop μ-loop
-no-part-requires-2 c κs = search needs
 
 returns-2 : tie.Need-returns-2 Inv-loop μ-loop
 returns-2 c =
@@ -71,9 +62,6 @@ part-before-nul-start c = omega arith
 part-before-nul-end : tie.Need-part-before-nul-end Inv-loop μ-loop
 part-before-nul-end c = omega (arith, fits c)
 
-before-nul-requires : tie.Need-before-nul-requires Inv-loop μ-loop
-before-nul-requires c κs = search needs
-
 add-judge : tie.Need-add-judge Inv-loop μ-loop
 add-judge c = omega arith
 
@@ -98,9 +86,6 @@ loop-again c =
     let r = d .before .before .before .loop .inv .1 in
     (omega (arith, r .whole), rest-again _ _ _ _ r (omega arith) (readable d) _ (c .before .before-nul .ensures) (omega arith))
 
-no-part-requires-3 : tie.Need-no-part-requires-3 Inv-loop μ-loop
-no-part-requires-3 c κs = search needs
-
 returns-4 : tie.Need-returns-4 Inv-loop μ-loop
 returns-4 c = handed-back _ _ _ (c .no-part3 .ensures) (rest-full _ _ _ _ (c .before .before .before .loop .inv .1) (omega arith))
 
@@ -110,25 +95,25 @@ read-string-spec =
     (tie.spec
     Inv-loop
     μ-loop
-    no-part-requires
+    (λ c κs. search needs)
     returns
     cast-offset
     loop-holds
     add-can-read
-    can-read-requires
-    no-part-requires-2
+    (λ c κs. search needs)
+    (λ c κs. search needs)
     returns-2
     add-at
     add-before-nul
     sub-before-nul
     part-before-nul-start
     part-before-nul-end
-    before-nul-requires
+    (λ c κs. search needs)
     add-judge
     judge-requires
     returns-3
     add-n
     loop-less
     loop-again
-    no-part-requires-3
+    (λ c κs. search needs)
     returns-4)

@@ -17,8 +17,5 @@ scan-requires : tie.Need-scan-requires
 unfolding classOf
 scan-requires c κs = class-table _ refl tt
 
-returns : tie.Need-returns
-returns c = search needs
-
 pub is-utf8-spec : {M : Type 1} → statement M
-is-utf8-spec = tie.close (tie.spec scan-requires returns)
+is-utf8-spec = tie.close (tie.spec scan-requires (λ c. search needs))

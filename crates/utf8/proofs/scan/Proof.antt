@@ -24,12 +24,6 @@ loop-holds c = (omega arith, refl)
 shared-slice-read-b : tie.Need-shared-slice-read-b Inv-loop μ-loop
 shared-slice-read-b c = omega arith
 
-class-of-requires : tie.Need-class-of-requires Inv-loop μ-loop
-class-of-requires c κs = search needs
-
-is-within-requires : tie.Need-is-within-requires Inv-loop μ-loop
-is-within-requires c κs = search needs
-
 -- a byte that begins no character
 returns : tie.Need-returns Inv-loop μ-loop
 returns c =
@@ -40,15 +34,6 @@ returns c =
 sub-lacks : tie.Need-sub-lacks Inv-loop μ-loop
 sub-lacks c =
     omega (arith, begins-least {k = c .before .before .class-of .result} (c .before .is-within .ensures) (c .if2 .left))
-
-low-after-requires : tie.Need-low-after-requires Inv-loop μ-loop
-low-after-requires c κs = search needs
-
-high-after-requires : tie.Need-high-after-requires Inv-loop μ-loop
-high-after-requires c κs = search needs
-
-is-within-requires-2 : tie.Need-is-within-requires-2 Inv-loop μ-loop
-is-within-requires-2 c κs = search needs
 
 -- a byte that continues none
 returns-2 : tie.Need-returns-2 Inv-loop μ-loop
@@ -93,13 +78,13 @@ scan-spec =
     μ-loop
     loop-holds
     shared-slice-read-b
-    class-of-requires
-    is-within-requires
+    (λ c κs. search needs)
+    (λ c κs. search needs)
     returns
     sub-lacks
-    low-after-requires
-    high-after-requires
-    is-within-requires-2
+    (λ c κs. search needs)
+    (λ c κs. search needs)
+    (λ c κs. search needs)
     returns-2
     sub-lacks-2
     add-i

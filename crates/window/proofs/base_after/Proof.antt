@@ -3,24 +3,6 @@ use Rattle.types.specs.Types.{isRp2350}
 use Rattle.window.proofs.base_after.Statement.{statement}
 use Rattle.window.proofs.base_after.Tie as tie
 
-enum-told : tie.Need-enum-told
-enum-told c = search needs
-
-enum-told-2 : tie.Need-enum-told-2
-enum-told-2 c = search needs
-
-enum-told-3 : tie.Need-enum-told-3
-enum-told-3 c = search needs
-
-enum-told-4 : tie.Need-enum-told-4
-enum-told-4 c = search needs
-
-enum-told-5 : tie.Need-enum-told-5
-enum-told-5 c = search needs
-
-enum-told-6 : tie.Need-enum-told-6
-enum-told-6 c = search needs
-
 returns : tie.Need-returns
 unfolding isRp2350
 returns c = rw (c .enum-told .given .1)
@@ -49,12 +31,12 @@ pub base-after-spec : {M : Type 1} → statement M
 base-after-spec =
     tie.close
     (tie.spec
-    enum-told
-    enum-told-2
-    enum-told-3
-    enum-told-4
-    enum-told-5
-    enum-told-6
+    (λ c. search needs)
+    (λ c. search needs)
+    (λ c. search needs)
+    (λ c. search needs)
+    (λ c. search needs)
+    (λ c. search needs)
     returns
     returns-2
     returns-3

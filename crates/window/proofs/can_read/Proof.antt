@@ -15,11 +15,8 @@ returns-2 c = sym (above-false _ _ _ _ (omega arith))
 returns-3 : tie.Need-returns-3
 returns-3 c = sym (past-false _ _ _ _ (omega arith))
 
-sub-result : tie.Need-sub-result
-sub-result c = search needs
-
 returns-4 : tie.Need-returns-4
 returns-4 c = enough-left _ _ _ _ (omega arith) (omega arith) (omega arith)
 
 pub can-read-spec : {M : Type 1} → statement M
-can-read-spec = tie.close (tie.spec returns returns-2 returns-3 sub-result returns-4)
+can-read-spec = tie.close (tie.spec returns returns-2 returns-3 (λ c. search needs) returns-4)

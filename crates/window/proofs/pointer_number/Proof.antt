@@ -8,9 +8,6 @@ use Rattle.window.proofs.pointer_number.Tie as tie
 returns : tie.Need-returns
 returns c = sym (pointer-3 _ _ _ _ (omega arith))
 
-can-read-requires : tie.Need-can-read-requires
-can-read-requires c κs = search needs
-
 returns-2 : tie.Need-returns-2
 returns-2 c = sym (pointer-0 _ _ _ _ (omega arith) (sym (c .before .can-read .ensures) ∙ c .if2 .taken))
 
@@ -18,4 +15,4 @@ returns-3 : tie.Need-returns-3
 returns-3 c = sym (pointer-2 _ _ _ _ (omega arith) (sym (c .before .can-read .ensures) ∙ c .if2 .left))
 
 pub pointer-number-spec : {M : Type 1} → statement M
-pointer-number-spec = tie.close (tie.spec returns can-read-requires returns-2 returns-3)
+pointer-number-spec = tie.close (tie.spec returns (λ c κs. search needs) returns-2 returns-3)

@@ -3,18 +3,6 @@ use Rattle.write_rows.proofs.RowSteps.{name-there, name-missing}
 use Rattle.write_rows.proofs.rom_name.Statement.{statement}
 use Rattle.write_rows.proofs.rom_name.Tie as tie
 
-u32-at-requires : tie.Need-u32-at-requires
-u32-at-requires c κs = search needs
-
-either-requires : tie.Need-either-requires
-either-requires c κs = search needs
-
-both-requires : tie.Need-both-requires
-both-requires c κs = search needs
-
-read-string-at-ptr-requires : tie.Need-read-string-at-ptr-requires
-read-string-at-ptr-requires c κs = search needs
-
 returns : tie.Need-returns
 returns c =
     let d = c .before .before in
@@ -29,9 +17,9 @@ pub rom-name-spec : {M : Type 1} → statement M
 rom-name-spec =
     tie.close
     (tie.spec
-    u32-at-requires
-    either-requires
-    both-requires
-    read-string-at-ptr-requires
+    (λ c κs. search needs)
+    (λ c κs. search needs)
+    (λ c κs. search needs)
+    (λ c κs. search needs)
     returns
     returns-2)

@@ -33,26 +33,8 @@ abbrev μ-loop : tie.MeasureT-loop
 loop-holds : tie.Need-loop-holds Inv-loop μ-loop
 loop-holds c = (omega arith, omega arith, omega arith, omega arith, refl, refl, refl, refl)
 
-image-from-requires : tie.Need-image-from-requires Inv-loop μ-loop
-image-from-requires c κs = search needs
-
-u8-at-requires : tie.Need-u8-at-requires Inv-loop μ-loop
-u8-at-requires c κs = search needs
-
-set-row-requires : tie.Need-set-row-requires Inv-loop μ-loop
-set-row-requires c κs = search needs
-
-slice-aggregate-put-words : tie.Need-slice-aggregate-put-words Inv-loop μ-loop
-slice-aggregate-put-words c = search needs
-
 put-words-requires : tie.Need-put-words-requires Inv-loop μ-loop
 put-words-requires c κs = omega arith
-
-u32-at-requires : tie.Need-u32-at-requires Inv-loop μ-loop
-u32-at-requires c κs = search needs
-
-cast-write-roms : tie.Need-cast-write-roms Inv-loop μ-loop
-cast-write-roms c = search needs
 
 mul-write-roms : tie.Need-mul-write-roms Inv-loop μ-loop
 mul-write-roms c = omega arith
@@ -65,14 +47,8 @@ write-roms-requires c κs =
     let t = total-step (a .image .now) (a .base) (a .filenames) (a .long) (p .address) (p .left) (i .before .loop-test .taken) (i .image-from .result .now) (i .image-from .ensures) in
     omega (arith, t, p .inv .3, c .before .before .before .before .before .before .before .before .u8-at .ensures)
 
-cast-first : tie.Need-cast-first Inv-loop μ-loop
-cast-first c = search needs
-
 add-first : tie.Need-add-first Inv-loop μ-loop
 add-first c = omega arith
-
-set-stride-requires : tie.Need-set-stride-requires Inv-loop μ-loop
-set-stride-requires c κs = search needs
 
 add-address : tie.Need-add-address Inv-loop μ-loop
 add-address c =
@@ -134,18 +110,18 @@ write-rom-sets-spec =
     Inv-loop
     μ-loop
     loop-holds
-    image-from-requires
-    u8-at-requires
-    set-row-requires
-    slice-aggregate-put-words
+    (λ c κs. search needs)
+    (λ c κs. search needs)
+    (λ c κs. search needs)
+    (λ c. search needs)
     put-words-requires
-    u32-at-requires
-    cast-write-roms
+    (λ c κs. search needs)
+    (λ c. search needs)
     mul-write-roms
     write-roms-requires
-    cast-first
+    (λ c. search needs)
     add-first
-    set-stride-requires
+    (λ c κs. search needs)
     add-address
     add-at
     sub-left

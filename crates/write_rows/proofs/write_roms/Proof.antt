@@ -24,12 +24,6 @@ abbrev μ-loop : tie.MeasureT-loop
 loop-holds : tie.Need-loop-holds Inv-loop μ-loop
 loop-holds c = (omega arith, omega arith, refl, refl)
 
-named-row-requires : tie.Need-named-row-requires Inv-loop μ-loop
-named-row-requires c κs = search needs
-
-slice-aggregate-put-words : tie.Need-slice-aggregate-put-words Inv-loop μ-loop
-slice-aggregate-put-words c = search needs
-
 put-words-requires : tie.Need-put-words-requires Inv-loop μ-loop
 put-words-requires c κs = omega arith
 
@@ -69,8 +63,8 @@ write-roms-spec =
     Inv-loop
     μ-loop
     loop-holds
-    named-row-requires
-    slice-aggregate-put-words
+    (λ c κs. search needs)
+    (λ c. search needs)
     put-words-requires
     add-entry
     add-at

@@ -14,41 +14,14 @@ Inv-loop image board set-rows rom-rows set cs-set out₀ i₀ out i = (i ≤ len
 abbrev μ-loop : tie.MeasureT-loop
 μ-loop image board set-rows rom-rows set cs-set out₀ i₀ out i = length out - i
 
-loop-holds : tie.Need-loop-holds Inv-loop μ-loop
-loop-holds c = search needs
-
-cast-t13 : tie.Need-cast-t13 Inv-loop μ-loop
-cast-t13 c = search needs
-
-read-rom-byte-demangled-requires : tie.Need-read-rom-byte-demangled-requires Inv-loop μ-loop
-read-rom-byte-demangled-requires c κs = search needs
-
-fill-end-requires : tie.Need-fill-end-requires Inv-loop μ-loop
-fill-end-requires c κs = search needs
-
-same-length : tie.Need-same-length Inv-loop μ-loop
-same-length c = search needs
-
 returns : tie.Need-returns Inv-loop μ-loop
 returns c = (search needs, sym (length-take-le _ _ (search needs)))
-
-slice-write-out : tie.Need-slice-write-out Inv-loop μ-loop
-slice-write-out c = search needs
-
-add-i : tie.Need-add-i Inv-loop μ-loop
-add-i c = search needs
 
 loop-less : tie.Need-loop-less Inv-loop μ-loop
 loop-less c = simp length-set (omega arith)
 
 loop-again : tie.Need-loop-again Inv-loop μ-loop
 loop-again c = (simp length-set (omega arith), simp length-set (omega arith))
-
-fill-end-requires-2 : tie.Need-fill-end-requires-2 Inv-loop μ-loop
-fill-end-requires-2 c κs = search needs
-
-same-length-2 : tie.Need-same-length-2 Inv-loop μ-loop
-same-length-2 c = search needs
 
 returns-2 : tie.Need-returns-2 Inv-loop μ-loop
 returns-2 c = (search needs, sym (length-take-le _ _ (search needs)))
@@ -59,16 +32,16 @@ fill-spec =
     (tie.spec
     Inv-loop
     μ-loop
-    loop-holds
-    cast-t13
-    read-rom-byte-demangled-requires
-    fill-end-requires
-    same-length
+    (λ c. search needs)
+    (λ c. search needs)
+    (λ c κs. search needs)
+    (λ c κs. search needs)
+    (λ c. search needs)
     returns
-    slice-write-out
-    add-i
+    (λ c. search needs)
+    (λ c. search needs)
     loop-less
     loop-again
-    fill-end-requires-2
-    same-length-2
+    (λ c κs. search needs)
+    (λ c. search needs)
     returns-2)

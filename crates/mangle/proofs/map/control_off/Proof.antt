@@ -19,15 +19,6 @@ abbrev μ-loop : tie.MeasureT-loop
 loop-holds : tie.Need-loop-holds Inv-loop μ-loop
 loop-holds c = (omega arith, refl)
 
-array-read-is-off : tie.Need-array-read-is-off Inv-loop μ-loop
-array-read-is-off c = search needs
-
-array-read-is-off-2 : tie.Need-array-read-is-off-2 Inv-loop μ-loop
-array-read-is-off-2 c = search needs
-
-is-off-requires : tie.Need-is-off-requires Inv-loop μ-loop
-is-off-requires c κs = search needs
-
 returns : tie.Need-returns Inv-loop μ-loop
 returns c =
     let l = c .before .before .before .loop in
@@ -36,12 +27,6 @@ returns c =
     let k : length (a .t3) ≡ 5 = search needs in
     let e = off-on (lowered (a .k)) (a .t2) (a .t3) (l .i) (omega arith) (omega arith) in
     rw (sym (c .before .is-off .ensures) ∙ c .if1 .taken) at (sym e ∙ l .inv .1)
-
-add-i : tie.Need-add-i Inv-loop μ-loop
-add-i c = search needs
-
-loop-less : tie.Need-loop-less Inv-loop μ-loop
-loop-less c = search needs
 
 loop-again : tie.Need-loop-again Inv-loop μ-loop
 loop-again c =
@@ -66,11 +51,11 @@ control-off-spec =
     Inv-loop
     μ-loop
     loop-holds
-    array-read-is-off
-    array-read-is-off-2
-    is-off-requires
+    (λ c. search needs)
+    (λ c. search needs)
+    (λ c κs. search needs)
     returns
-    add-i
-    loop-less
+    (λ c. search needs)
+    (λ c. search needs)
     loop-again
     returns-2)

@@ -5,12 +5,6 @@ use Rattle.mangle.specs.Code.{onControl}
 use Rattle.mangle.proofs.map.put_control.Statement.{statement}
 use Rattle.mangle.proofs.map.put_control.Tie as tie
 
-lower-requires : tie.Need-lower-requires
-lower-requires c κs = search needs
-
-bit-of-requires : tie.Need-bit-of-requires
-bit-of-requires c κs = search needs
-
 put-requires : tie.Need-put-requires
 put-requires c κs =
     let s = c .before .before .before in
@@ -27,4 +21,4 @@ unfolding onControl
 returns-2 c = rw (le-ltb (c .before .args .bit) 32 (c .if1 .left))
 
 pub put-control-spec : {M : Type 1} → statement M
-put-control-spec = tie.close (tie.spec lower-requires bit-of-requires put-requires returns returns-2)
+put-control-spec = tie.close (tie.spec (λ c κs. search needs) (λ c κs. search needs) put-requires returns returns-2)

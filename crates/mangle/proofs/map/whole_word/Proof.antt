@@ -6,12 +6,6 @@ use Rattle.mangle.specs.Code.{wholeWord}
 use Rattle.mangle.proofs.map.whole_word.Statement.{statement}
 use Rattle.mangle.proofs.map.whole_word.Tie as tie
 
-control-bits-requires : tie.Need-control-bits-requires
-control-bits-requires c κs = search needs
-
-with-x-requires : tie.Need-with-x-requires
-with-x-requires c κs = search needs
-
 with-controls-requires : tie.Need-with-controls-requires
 with-controls-requires c κs =
     let s = c .before .before .before in
@@ -23,9 +17,6 @@ returns c =
     let t = c .before .before in
     rw (le-leb 2 (t .before .before .args .rom-count) (t .if1 .taken), c .with-controls .ensures, c .before .with-x .ensures, t .before .control-bits .ensures)
 
-with-controls-requires-2 : tie.Need-with-controls-requires-2
-with-controls-requires-2 c κs = search needs
-
 returns-2 : tie.Need-returns-2
 unfolding wholeWord
 returns-2 c =
@@ -36,9 +27,9 @@ pub whole-word-spec : {M : Type 1} → statement M
 whole-word-spec =
     tie.close
     (tie.spec
-    control-bits-requires
-    with-x-requires
+    (λ c κs. search needs)
+    (λ c κs. search needs)
     with-controls-requires
     returns
-    with-controls-requires-2
+    (λ c κs. search needs)
     returns-2)

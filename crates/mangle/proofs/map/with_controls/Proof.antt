@@ -20,20 +20,8 @@ abbrev μ-loop : tie.MeasureT-loop
 loop-holds : tie.Need-loop-holds Inv-loop μ-loop
 loop-holds c = (omega arith, c .pre, refl)
 
-array-read-put-control : tie.Need-array-read-put-control Inv-loop μ-loop
-array-read-put-control c = search needs
-
-array-read-put-control-2 : tie.Need-array-read-put-control-2 Inv-loop μ-loop
-array-read-put-control-2 c = search needs
-
 put-control-requires : tie.Need-put-control-requires Inv-loop μ-loop
 put-control-requires c κs = c .before .loop .inv .1
-
-add-i : tie.Need-add-i Inv-loop μ-loop
-add-i c = search needs
-
-loop-less : tie.Need-loop-less Inv-loop μ-loop
-loop-less c = search needs
 
 loop-again : tie.Need-loop-again Inv-loop μ-loop
 loop-again c =
@@ -58,10 +46,10 @@ with-controls-spec =
     Inv-loop
     μ-loop
     loop-holds
-    array-read-put-control
-    array-read-put-control-2
+    (λ c. search needs)
+    (λ c. search needs)
     put-control-requires
-    add-i
-    loop-less
+    (λ c. search needs)
+    (λ c. search needs)
     loop-again
     returns)

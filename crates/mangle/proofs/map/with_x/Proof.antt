@@ -6,22 +6,10 @@ use Rattle.mangle.specs.Code.{onX}
 use Rattle.mangle.proofs.map.with_x.Statement.{statement}
 use Rattle.mangle.proofs.map.with_x.Tie as tie
 
-lower-requires : tie.Need-lower-requires
-lower-requires c κs = search needs
-
-bit-of-requires : tie.Need-bit-of-requires
-bit-of-requires c κs = search needs
-
 put-requires : tie.Need-put-requires
 put-requires c κs =
     let s = c .before .before in
     (s .pre, rw (c .bit-of .ensures) (taken-lt (s .args .word) 14))
-
-lower-requires-2 : tie.Need-lower-requires-2
-lower-requires-2 c κs = search needs
-
-bit-of-requires-2 : tie.Need-bit-of-requires-2
-bit-of-requires-2 c κs = search needs
 
 put-requires-2 : tie.Need-put-requires-2
 put-requires-2 c κs =
@@ -42,10 +30,10 @@ pub with-x-spec : {M : Type 1} → statement M
 with-x-spec =
     tie.close
     (tie.spec
-    lower-requires
-    bit-of-requires
+    (λ c κs. search needs)
+    (λ c κs. search needs)
     put-requires
-    lower-requires-2
-    bit-of-requires-2
+    (λ c κs. search needs)
+    (λ c κs. search needs)
     put-requires-2
     returns)

@@ -2,15 +2,6 @@ use borrow.Author.Needs.{needs}
 use Rattle.mangle.proofs.map.x_taken.Statement.{statement}
 use Rattle.mangle.proofs.map.x_taken.Tie as tie
 
-is-high-pin-requires : tie.Need-is-high-pin-requires
-is-high-pin-requires c κs = search needs
-
-is-high-pin-requires-2 : tie.Need-is-high-pin-requires-2
-is-high-pin-requires-2 c κs = search needs
-
-either-requires : tie.Need-either-requires
-either-requires c κs = search needs
-
 returns : tie.Need-returns
 returns c =
     let t = c .before .before .before in
@@ -22,4 +13,4 @@ returns-2 c = rw (c .if1 .left)
 pub x-taken-spec : {M : Type 1} → statement M
 x-taken-spec =
     tie.close
-    (tie.spec is-high-pin-requires is-high-pin-requires-2 either-requires returns returns-2)
+    (tie.spec (λ c κs. search needs) (λ c κs. search needs) (λ c κs. search needs) returns returns-2)

@@ -2,14 +2,14 @@
 use Prim.Native.Nat.{ℕ}
 use mathlib.Core.List.{List}
 use Rattle.fw_parser.specs.declared.Opening.{Opening}
-use Rattle.fw_parser.specs.Opening.{Opened, opening}
+use Rattle.fw_parser.specs.Opening.{Opened, openWith}
 use Rattle.fw_parser.specs.Reply.{openingReply}
 use Rattle.c_report.specs.Report.{reportOut}
 use Rattle.c_open.specs.declared.OneromOpening.{OneromOpening}
 
-abbrev pub openCall : (flashBase cs0Base infoOffset setWords romWords : ℕ) → List ℕ → Opened
-openCall flashBase cs0Base infoOffset setWords romWords x =
-    opening (record { «flash_base» = flashBase; «cs0_base» = cs0Base; «info_offset» = infoOffset }) setWords romWords x
+abbrev pub openCall : (flashBase cs0Base infoOffset : ℕ) → (sets roms : List ℕ) → List ℕ → Opened
+openCall flashBase cs0Base infoOffset sets roms x =
+    openWith (record { «flash_base» = flashBase; «cs0_base» = cs0Base; «info_offset» = infoOffset }) sets roms x
 
 -- the number and the report
 abbrev pub handedOut : Opening → OneromOpening

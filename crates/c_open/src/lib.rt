@@ -2,7 +2,6 @@
 use c_report::OneromReport;
 use sdrr_info::Settings;
 ghost use mathlib.Core.Path.{_≡_};
-ghost use lib.ListN.{length};
 ghost use Rattle.fw_parser.specs.Opening.{setRowsLeft, romRowsLeft};
 ghost use Rattle.c_open.specs.Opening.{openCall, openingOut};
 
@@ -21,9 +20,9 @@ pub fn open_call(
     set_rows: &mut [u32],
     rom_rows: &mut [u32],
 ) -> OneromOpening
-    ensures reply { λ r. ⌜ r ≡ openingOut (openCall «flash_base» «cs0_base» «info_offset» (length (now («set_rows» .entry))) (length (now («rom_rows» .entry))) (now (image .entry))) ⌝ }
-    ensures sets { λ r. ⌜ now («set_rows» .exit) ≡ setRowsLeft (openCall «flash_base» «cs0_base» «info_offset» (length (now («set_rows» .entry))) (length (now («rom_rows» .entry))) (now (image .entry))) (now («set_rows» .entry)) ⌝ }
-    ensures roms { λ r. ⌜ now («rom_rows» .exit) ≡ romRowsLeft (openCall «flash_base» «cs0_base» «info_offset» (length (now («set_rows» .entry))) (length (now («rom_rows» .entry))) (now (image .entry))) (now («rom_rows» .entry)) ⌝ }
+    ensures reply { λ r. ⌜ r ≡ openingOut (openCall «flash_base» «cs0_base» «info_offset» (now («set_rows» .entry)) (now («rom_rows» .entry)) (now (image .entry))) ⌝ }
+    ensures sets { λ r. ⌜ now («set_rows» .exit) ≡ setRowsLeft (openCall «flash_base» «cs0_base» «info_offset» (now («set_rows» .entry)) (now («rom_rows» .entry)) (now (image .entry))) (now («set_rows» .entry)) ⌝ }
+    ensures roms { λ r. ⌜ now («rom_rows» .exit) ≡ romRowsLeft (openCall «flash_base» «cs0_base» «info_offset» (now («set_rows» .entry)) (now («rom_rows» .entry)) (now (image .entry))) (now («rom_rows» .entry)) ⌝ }
 {
     let settings = Settings {
         flash_base,

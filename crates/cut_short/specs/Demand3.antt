@@ -7,13 +7,9 @@ use lib.ListN.{length, take}
 use Rattle.prog.specs.Prog.{reach}
 use Rattle.info.specs.Reads.{RomRead}
 use Rattle.sdrr_info.specs.declared.Settings.{Settings}
-use Rattle.fw_parser.specs.Opening.{Opened, refused, opened, openP, opening, setRowsLeft, romRowsLeft}
+use Rattle.fw_parser.specs.Opening.{Opened, refused, opened, openP, openWith, setRowsLeft, romRowsLeft}
 use Rattle.cut_short.specs.Shown.{EndedOpening, KeptOpening}
 use Rattle.cut_short.specs.ReadAfter.{readAfter}
-
--- the opening of an image with lent rows
-abbrev pub openWith : Settings → (sets roms : List ℕ) → List ℕ → Opened
-openWith s sets roms x = opening s (length sets) (length roms) x
 
 -- the image opens
 abbrev pub Opens : Opened → Type 0

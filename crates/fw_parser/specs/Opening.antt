@@ -111,6 +111,10 @@ openP s setWords romWords = headerP (s .«flash_base») (s .«info_offset») >>=
 unfoldable pub opening : Settings → ℕ → ℕ → List ℕ → Opened
 opening s setWords romWords x = pick (beyondWindow (s .«flash_base») (s .«cs0_base») x) (refused 1) (run (openP s setWords romWords) x)
 
+-- with lent rows
+abbrev pub openWith : Settings → (sets roms : List ℕ) → List ℕ → Opened
+openWith s sets roms x = opening s (length sets) (length roms) x
+
 -- ---- the rows, as the opening leaves them: a refusal changes no word, an acceptance only the rows it names
 
 abbrev pub setRowsLeft : Opened → List ℕ → List ℕ

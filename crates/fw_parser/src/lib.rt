@@ -7,9 +7,8 @@ use sdrr_info::Settings;
 use sets_item::SetsItem;
 use text::Text;
 ghost use mathlib.Core.Path.{_≡_};
-ghost use lib.ListN.{length};
 ghost use Rattle.text.specs.Text.{refusedText};
-ghost use Rattle.fw_parser.specs.Opening.{opening, setRowsLeft, romRowsLeft};
+ghost use Rattle.fw_parser.specs.Opening.{openWith, setRowsLeft, romRowsLeft};
 ghost use Rattle.fw_parser.specs.Reply.{noReport, openingReply};
 ghost use Rattle.fw_parser.specs.Code.{isShort, reportWith};
 
@@ -84,9 +83,9 @@ pub fn parse_flash(
     set_rows: &mut [u32],
     rom_rows: &mut [u32],
 ) -> Opening
-    ensures reply { λ r. ⌜ r ≡ openingReply (opening settings (length (now («set_rows» .entry))) (length (now («rom_rows» .entry))) (now (image .entry))) ⌝ }
-    ensures sets { λ r. ⌜ now («set_rows» .exit) ≡ setRowsLeft (opening settings (length (now («set_rows» .entry))) (length (now («rom_rows» .entry))) (now (image .entry))) (now («set_rows» .entry)) ⌝ }
-    ensures roms { λ r. ⌜ now («rom_rows» .exit) ≡ romRowsLeft (opening settings (length (now («set_rows» .entry))) (length (now («rom_rows» .entry))) (now (image .entry))) (now («rom_rows» .entry)) ⌝ }
+    ensures reply { λ r. ⌜ r ≡ openingReply (openWith settings (now («set_rows» .entry)) (now («rom_rows» .entry)) (now (image .entry))) ⌝ }
+    ensures sets { λ r. ⌜ now («set_rows» .exit) ≡ setRowsLeft (openWith settings (now («set_rows» .entry)) (now («rom_rows» .entry)) (now (image .entry))) (now («set_rows» .entry)) ⌝ }
+    ensures roms { λ r. ⌜ now («rom_rows» .exit) ≡ romRowsLeft (openWith settings (now («set_rows» .entry)) (now («rom_rows» .entry)) (now (image .entry))) (now («rom_rows» .entry)) ⌝ }
 {
     let none = no_report();
     if window::beyond_window(image, settings.flash_base, settings.cs0_base) {

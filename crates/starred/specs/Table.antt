@@ -14,7 +14,8 @@ use Rattle.types.specs.Types.{isHigh, romTypeOf}
 use Rattle.type_numbers.specs.TypeNumbers.{romTypeNumber}
 use Rattle.demangle.specs.Bits.{bitAt, takenBit, gather}
 use Rattle.demangle.specs.Demangle.{allBelow, demangle}
-use Rattle.base_zero.specs.BaseZero.{leastOf, lowered, leastPin, loweredBy, baseZero}
+use Rattle.least_pin.specs.LeastPin.{leastOf, leastPin}
+use Rattle.base_zero.specs.BaseZero.{lowered, loweredBy, baseZero}
 use Rattle.rom_rules.specs.Rules.{rulesOf, drives, mangleNumber}
 use Rattle.input_word.specs.Input.{raised, inputWord}
 use Rattle.mangle.specs.declared.Mangled.{Mangled}

@@ -7,14 +7,14 @@ use mathlib.Core.List.{List}
 use lib.ListN.{length, take}
 use Rattle.sdrr_info.specs.declared.Settings.{Settings}
 use Rattle.sdrr_info.specs.declared.SdrrInfo.{SdrrInfo}
-use Rattle.fw_parser.specs.Opening.{Opened, refused, opened}
+use Rattle.fw_parser.specs.Opening.{Opened, refused, opened, openWith}
 use Rattle.sdrr_info.specs.Report.{boardOf}
 use Rattle.fw_parser.specs.Reply.{openingReply}
 use Rattle.fw_parser.specs.Laws.Fits.{Fits, opening-fits}
 use Rattle.fw_parser.specs.Laws.Promises.{replied, setsAfter, romsAfter}
 use Rattle.info.specs.Lent.{Lent, lentBy}
 use Rattle.cut_short.specs.ReadAfter.{lentOf}
-use Rattle.cut_short.specs.Demand3.{openWith, Opens, reachWith, Demand3}
+use Rattle.cut_short.specs.Demand3.{Opens, reachWith, Demand3}
 use Rattle.cut_short.specs.Laws.Proof.{demand3}
 
 module _ (s : Settings) (sets roms x : List ℕ) where

@@ -16,7 +16,7 @@ use Rattle.walk.specs.Laws.Rows.{set-rows-length, rom-rows-length}
 use Rattle.sdrr_info.specs.declared.Settings.{Settings}
 use Rattle.sdrr_info.specs.declared.SdrrInfo.{SdrrInfo}
 use Rattle.fw_parser.specs.declared.Opening.{Opening}
-use Rattle.fw_parser.specs.Opening.{Opened, refused, opened, opening, setRowsLeft, romRowsLeft}
+use Rattle.fw_parser.specs.Opening.{Opened, refused, opened, openWith, setRowsLeft, romRowsLeft}
 use Rattle.fw_parser.specs.Reply.{noReport, openingReply}
 use Rattle.fw_parser.specs.Laws.Items.{opened-names}
 use Rattle.fw_parser.specs.Laws.Sanity.{ServedSets, served-sets}
@@ -25,17 +25,17 @@ use Rattle.fw_parser.specs.Laws.Fits.{Fits, opening-fits, opened-run, Fr
 -- ---- what the statements of the code say
 
 abbrev pub replied : Settings → List ℕ → List ℕ → List ℕ → Opening
-replied s sets roms x = openingReply (opening s (length sets) (length roms) x)
+replied s sets roms x = openingReply (openWith s sets roms x)
 
 abbrev pub setsAfter : Settings → List ℕ → List ℕ → List ℕ → List ℕ
-setsAfter s sets roms x = setRowsLeft (opening s (length sets) (length roms) x) sets
+setsAfter s sets roms x = setRowsLeft (openWith s sets roms x) sets
 
 abbrev pub romsAfter : Settings → List ℕ → List ℕ → List ℕ → List ℕ
-romsAfter s sets roms x = romRowsLeft (opening s (length sets) (length roms) x) roms
+romsAfter s sets roms x = romRowsLeft (openWith s sets roms x) roms
 
 module _ (s : Settings) (sets roms x : List ℕ) where
   abbrev o : Opened
-  o = opening s (length sets) (length roms) x
+  o = openWith s sets roms x
 
   -- ---- demand 1
 

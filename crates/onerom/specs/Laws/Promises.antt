@@ -8,7 +8,7 @@ use Prim.Native.Nat.{ℕ}
 use mathlib.Core.Path.{_≡_, refl, sym, ap, _∙_}
 use mathlib.Core.Bool.{Bool, true, false}
 use mathlib.Core.List.{List, []}
-use lib.ListN.{length, take}
+use lib.ListN.{take}
 use borrow.Author.Tests.{ne-eqb}
 use Rattle.window.specs.Window.{baseAfter}
 use Rattle.types.specs.declared.McuLine.{McuLine}
@@ -136,12 +136,12 @@ module _ (f c : ℕ) (sets roms : List ℕ) where
       refused-refuses (settings 0) sets roms n count (byte set (addressFrom logical address levels) demangled) x
       (ap (λ (t : ByteRead). t .number) (sym (byte-after 0 demangled (refused n) set logical address levels count x)) ∙ h)
 
-  module _ (o : ℕ) (x : List ℕ) (opens : Opens (openCall f c o (length sets) (length roms) x)) (k : ℕ) where
+  module _ (o : ℕ) (x : List ℕ) (opens : Opens (openCall f c o sets roms x)) (k : ℕ) where
     abbrev cut : Opened
-    cut = openCall f c o (length sets) (length roms) (take k x)
+    cut = openCall f c o sets roms (take k x)
 
     abbrev whole : Opened
-    whole = openCall f c o (length sets) (length roms) x
+    whole = openCall f c o sets roms x
 
     -- report, rows and items, for every image that opens and every cut
     pub cut-short : Demand3 (settings o) sets roms x k

@@ -10,20 +10,20 @@ CRATES = os.path.join(ROOT, "crates")
 
 # Document 01's sections in its order, and the files that define what each says.
 READING = [
-    ("what every definition is written with", ["base/Choice", "le/Le", "prog/Prog"]),
+    ("what every definition is written with", ["base/Choice", "le/Le", "runs/Runs", "magic/Magic", "prog/Prog"]),
     ("Window", ["window/Window"]),
     ("String; RFC 3629", ["utf8/Utf8", "utf8/Rfc3629", "text/Text"]),
-    ("Info header", ["types/Types", "version/Version", "header/Header"]),
+    ("Info header", ["types/Types", "type_numbers/TypeNumbers", "version/Version", "header/Header"]),
     ("Extra info", ["extra_info/ExtraInfo"]),
-    ("Metadata", ["metadata/Metadata", "records/Looked"]),
+    ("Metadata", ["metadata/Metadata", "sets_source/Looked"]),
     ("ROM sets and ROM infos", ["set_header/SetHeader", "walk/Walk", "walk/Names", "walk/Rows", "rows/LentRows", "rom_rows/Reply"]),
-    ("Report", ["fw_parser/Opening", "fw_parser/Reply"]),
+    ("Report", ["sets_item/Sets", "fw_parser/Opening", "fw_parser/Reply", "sdrr_info/Report"]),
     ("Pins", ["pins/Pins"]),
-    ("Mangling", ["base_zero/BaseZero", "rom_rules/Rules", "rom_rules/Input", "demangle/Bits", "mangle/PinMap", "mangle/Mangle", "demangle/Demangle"]),
-    ("Lent rows, ROM data, same set", ["info/Lent", "info/Reads", "info/Same", "rom_reads/Calls"]),
+    ("Mangling", ["least_pin/LeastPin", "base_zero/BaseZero", "rom_rules/Rules", "input_word/Input", "demangle/Bits", "mangle/PinMap", "mangle/Mangle", "demangle/Demangle"]),
+    ("Lent rows, ROM data, same set", ["governing/Governing", "info/Lent", "info/Reads", "info/Same", "data_reads/Calls", "byte_reads/Calls"]),
     ("Runtime", ["runtime_info/Runtime", "runtime_info/Words"]),
     ("demand 3", ["cut_short/Shown", "cut_short/ReadAfter", "cut_short/Demand3"]),
-    ("the calls of C and Rust", ["c_board/Board", "c_board/Value", "c_report/Report", "c_open/Opening", "c_reads/Reads", "c_calls/Board"]),
+    ("the calls of C and Rust", ["c_board/Board", "c_board/Value", "c_report/Report", "c_handed/Handed", "c_open/Opening", "c_reads/Reads", "c_mangle/Board"]),
 ]
 # Files at the top of specs/ that no buyer needs: the root, and a program's table.
 NOT_READ = {"Lib", "Laws", "Code", "Examples"}

@@ -94,7 +94,7 @@ pub fn parse_flash(
             info: none,
         };
     }
-    let a = header_record::retrieve_header(image, settings.flash_base, settings.info_offset);
+    let a = records::read_header(image, settings.flash_base, settings.info_offset);
     if a.number != 0 {
         return Opening {
             number: a.number,

@@ -103,7 +103,7 @@ abbrev pub slots : List Further → List (Slot 1)
 slots [] = []
 slots (F ∷ Fs) = plain (λ _. F .row) ∷ slots Fs
 
-abbrev stays : (Fs : List Further) → Stays (slots Fs) (all yes (slots Fs))
+abbrev pub stays : (Fs : List Further) → Stays (slots Fs) (all yes (slots Fs))
 stays [] = tt
 stays (F ∷ Fs) = (stay-none (λ _. F .row) yes, stays Fs)
 
@@ -111,7 +111,7 @@ module _ (κs : Lfts 1) where
   abbrev pub rows : List Further → List RattleType
   rows Fs = typesAt (slots Fs) κs
 
-  abbrev spelled : (Fs : List Further) → Spells (rows Fs)
+  abbrev pub spelled : (Fs : List Further) → Spells (rows Fs)
   spelled [] = tt
   spelled (F ∷ Fs) = ((λ x. F .val x ∷ []), spelled Fs)
 
@@ -121,26 +121,26 @@ module _ (κs : Lfts 1) where
   abbrev pub Given-as : (Fs : List Further) → Denots (rows Fs) → Type 0
   Given-as Fs a = Are (rows Fs) (Ises (rows Fs)) a (values Fs a)
 
-  told : (Fs : List Further) → Tellss (rows Fs) (Ises (rows Fs)) (spelled Fs)
+  pub told : (Fs : List Further) → Tellss (rows Fs) (Ises (rows Fs)) (spelled Fs)
   told [] = tt
   told (F ∷ Fs) = (F .tells, told Fs)
 
-  bounds : (Fs : List Further) (a : Denots (rows Fs)) → Fins κs (slots Fs) (all yes (slots Fs)) a
+  pub bounds : (Fs : List Further) (a : Denots (rows Fs)) → Fins κs (slots Fs) (all yes (slots Fs)) a
   bounds [] a = tt
   bounds (F ∷ Fs) a = (bound F (a .0), bounds Fs (a .1))
 
-  fit : (Fs : List Further) (a : Denots (rows Fs)) (ws : Fins κs (slots Fs) (all yes (slots Fs)) a) → fitsOf κs (slots Fs) (all yes (slots Fs)) (stays Fs) a ws
+  pub fit : (Fs : List Further) (a : Denots (rows Fs)) (ws : Fins κs (slots Fs) (all yes (slots Fs)) a) → fitsOf κs (slots Fs) (all yes (slots Fs)) (stays Fs) a ws
   fit [] a ws = tt
   fit (F ∷ Fs) a ws = (tt, fit Fs (a .1) (ws .1))
 
 module _ {M : Type 1} (𝓤 : URA M) (H : Heap 𝓤) (A : Atoms 𝓤) (W : Given 𝓤 H A) where
   -- what they own is had for nothing
-  had : (κs : Lfts 1) (Fs : List Further) (a : Denots (rows κs Fs)) (ws : Fins κs (slots Fs) (all yes (slots Fs)) a) → Given-as κs Fs a → ent 𝓤 (emp 𝓤) (sem 𝓤 H A (hasOf κs (slots Fs) (all yes (slots Fs)) (stays Fs) a ws (values κs Fs a)))
+  pub had : (κs : Lfts 1) (Fs : List Further) (a : Denots (rows κs Fs)) (ws : Fins κs (slots Fs) (all yes (slots Fs)) a) → Given-as κs Fs a → ent 𝓤 (emp 𝓤) (sem 𝓤 H A (hasOf κs (slots Fs) (all yes (slots Fs)) (stays Fs) a ws (values κs Fs a)))
   had κs [] a ws are = id⊢ 𝓤 (emp 𝓤)
   had κs (F ∷ Fs) a ws are =
       qed W [] ∵ use0 W (‵ (hasOf κs (slots Fs) (all yes (slots Fs)) (stays Fs) (a .1) (ws .1) (values κs Fs (a .1)))) (had κs Fs (a .1) (ws .1) (are .1)) $ owned ! (F .row) (Is (F .row)) (F .makes 𝓤 H A W) (a .0) _ (are .0) $ fjoin ! $ done !
 
-  go : (Fs : List Further) → AllGo 𝓤 H A W 1 (slots Fs) (all yes (slots Fs)) (stays Fs)
+  pub go : (Fs : List Further) → AllGo 𝓤 H A W 1 (slots Fs) (all yes (slots Fs)) (stays Fs)
   go [] = tt
   go (F ∷ Fs) = (goes-none 𝓤 H A W 1 (λ _. F .row) yes (λ κs. silent F), go Fs)
 

@@ -1,5 +1,6 @@
-// The records at the header's pointers.
+// The header, and the records at its pointers.
 use extra_info::ExtraInfoItem;
+use header::HeaderAnswer;
 use header::SdrrInfoHeader;
 use pins::PinsItem;
 use sets_source::SetsSource;
@@ -8,6 +9,7 @@ use version::FirmwareVersion;
 ghost use mathlib.Core.Path.{_≡_};
 ghost use Rattle.prog.specs.Prog.{run};
 ghost use Rattle.text.specs.Text.{textP};
+ghost use Rattle.header.specs.Header.{headerP};
 ghost use Rattle.extra_info.specs.ExtraInfo.{extraInfoP};
 ghost use Rattle.pins.specs.Pins.{pinsP};
 ghost use Rattle.sets_source.specs.Looked.{lookP};
@@ -26,6 +28,12 @@ pub struct Records {
     pub extra_info: ExtraInfoItem,
     pub sets: SetsSource,
     pub pins: PinsItem,
+}
+
+fn header_at<'a>(w: Window<'a>, info_offset: u32) -> HeaderAnswer
+    ensures { λ r. ⌜ r ≡ run (headerP (w .entry .base) «info_offset») (now (w .entry .image)) ⌝ }
+{
+    header_record::retrieve_header(w.image, w.base, info_offset)
 }
 
 fn string_at<'a>(w: Window<'a>, ptr: u32) -> Text
@@ -50,6 +58,18 @@ fn pins_at<'a>(w: Window<'a>, ptr: u32) -> PinsItem
     ensures { λ r. ⌜ r ≡ run (pinsP (w .entry .base) ptr) (now (w .entry .image)) ⌝ }
 {
     pins_record::read_pins(w.image, w.base, ptr)
+}
+
+pub fn read_header(image: &[u8], flash_base: u32, info_offset: u32) -> HeaderAnswer
+    ensures { λ r. ⌜ r ≡ run (headerP «flash_base» «info_offset») (now (image .entry)) ⌝ }
+{
+    header_at(
+        Window {
+            image,
+            base: flash_base,
+        },
+        info_offset,
+    )
 }
 
 pub fn read_records(image: &[u8], base: u32, header: SdrrInfoHeader) -> Records

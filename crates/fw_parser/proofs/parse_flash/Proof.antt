@@ -19,7 +19,7 @@ returns-2 c =
     let b = e .before in
     let n = b .before in
     let a = n .before .before .before .before .args in
-    let l = left-header (a .settings) (a .image .now) (a .set-rows .now) (a .rom-rows .now) (sym (b .beyond-window .ensures) ∙ e .if1 .left) _ (h .retrieve-header .ensures) (c .if2 .taken) in
+    let l = left-header (a .settings) (a .image .now) (a .set-rows .now) (a .rom-rows .now) (sym (b .beyond-window .ensures) ∙ e .if1 .left) _ (h .read-header .ensures) (c .if2 .taken) in
     (refused-by _ _ (n .no-report .ensures) ∙ l .reply, (l .set-rows, l .rom-rows))
 
 returns-3 : tie.Need-returns-3
@@ -35,7 +35,7 @@ returns-3 c =
     let b = e .before in
     let n = b .before in
     let a = n .before .before .before .before .args in
-    let l = left-short (a .settings) (a .image .now) (a .set-rows .now) (a .rom-rows .now) (sym (b .beyond-window .ensures) ∙ e .if1 .left) _ (h .retrieve-header .ensures) (f .if2 .left) _ (g .base-after .ensures) _ (k .read-records .ensures) _ _ _
+    let l = left-short (a .settings) (a .image .now) (a .set-rows .now) (a .rom-rows .now) (sym (b .beyond-window .ensures) ∙ e .if1 .left) _ (h .read-header .ensures) (f .if2 .left) _ (g .base-after .ensures) _ (k .read-records .ensures) _ _ _
     (record { reply = w .walk-sets .ensures .0; set-rows = w .walk-sets .ensures .1 .0; rom-rows = w .walk-sets .ensures .1 .1 }) (sym (q .is-short .ensures) ∙ c .if3 .taken) in
     (refused-by _ _ (n .no-report .ensures) ∙ l .reply, (l .set-rows, l .rom-rows))
 
@@ -52,7 +52,7 @@ returns-4 c =
     let b = e .before in
     let n = b .before in
     let a = n .before .before .before .before .args in
-    let l = left-open (a .settings) (a .image .now) (a .set-rows .now) (a .rom-rows .now) (sym (b .beyond-window .ensures) ∙ e .if1 .left) _ (h .retrieve-header .ensures) (f .if2 .left) _ (g .base-after .ensures) _ (k .read-records .ensures) _ _ _
+    let l = left-open (a .settings) (a .image .now) (a .set-rows .now) (a .rom-rows .now) (sym (b .beyond-window .ensures) ∙ e .if1 .left) _ (h .read-header .ensures) (f .if2 .left) _ (g .base-after .ensures) _ (k .read-records .ensures) _ _ _
     (record { reply = w .walk-sets .ensures .0; set-rows = w .walk-sets .ensures .1 .0; rom-rows = w .walk-sets .ensures .1 .1 }) (sym (q .is-short .ensures) ∙ c .if3 .left) in
     (opened-by _ _ (p .report .ensures) ∙ l .reply, (l .set-rows, l .rom-rows))
 

@@ -1,7 +1,7 @@
 -- The reads by a report handed back, put together from what they call.
 -- Assumes nothing.
 use Prim.Native.Nat.{ℕ}
-use mathlib.Core.Path.{_≡_, ap, ap₂, _∙_}
+use mathlib.Core.Path.{_≡_, sym, ap, ap₂, _∙_}
 use mathlib.Core.Bool.{Bool}
 use mathlib.Core.List.{List, []}
 use Rattle.info.specs.declared.SdrrAddress.{SdrrAddress}
@@ -16,7 +16,6 @@ use Rattle.c_report.specs.declared.OneromReport.{OneromReport}
 use Rattle.c_handed.specs.Handed.{boardIn}
 use Rattle.c_board.specs.Board.{addressFrom}
 use Rattle.c_board.specs.Value.{valueAfter}
-use Rattle.c_board.specs.Laws.{value-refused, value-given}
 use Rattle.c_reads.specs.Reads.{dataCall, byteCall}
 
 module _ (f c : ℕ) (report : OneromReport) (sets : List ℕ) (set offset count : ℕ) (x lent : List ℕ) (n : ℕ) where
@@ -37,7 +36,7 @@ module _ (f c : ℕ) (report : OneromReport) (sets : List ℕ) (set offset count
       let told = h ∙ ap countedOf (at-board b e) in
       (ap (λ (t : Counted). t .number) told, (l ∙ ap (λ (t : Reply). bufferLeft t lent) (at-board b e), ap (λ (t : Counted). t .count) told))
 
--- a byte read by the board and the address as they are made of what is handed over: what it leaves, refused and accepted
+-- a byte read by the board and the address as they are made of what is handed over: what it leaves
 module _ (demangled : Bool) (f c : ℕ) (report : OneromReport) (sets roms : List ℕ) (set logical address : ℕ) (levels : List ℕ) (count : ℕ) (x : List ℕ) where
   by-address : Board → SdrrAddress → ByteRead
   by-address b a = byteOf (romRead (b .«flash_base») (b .«cs0_base») (lentBy b sets roms) count (byte set a demangled) x)
@@ -48,18 +47,11 @@ module _ (demangled : Bool) (f c : ℕ) (report : OneromReport) (sets roms : Lis
     unfolding by-address byteCall boardIn
     same = h ∙ ap₂ by-address made at
 
-    pub byte-refused : (value : ℕ) → (r .number ≡ 0 → ⊥)
-        → (r .number ≡ byteCall demangled f c report sets roms set logical address levels count x .number)
-        × ((r .count ≡ byteCall demangled f c report sets roms set logical address levels count x .count)
-        × (value ≡ valueAfter (r .number) (byteCall demangled f c report sets roms set logical address levels count x .byte) value))
-    byte-refused value g =
-        let kept = value-refused (byteCall demangled f c report sets roms set logical address levels count x .byte) value (ap (λ (t : ByteRead). t .number) same) g in
-        (kept .0, (ap (λ (t : ByteRead). t .count) same, kept .1))
-
-    pub byte-given : r .number ≡ 0
-        → (0 ≡ byteCall demangled f c report sets roms set logical address levels count x .number)
-        × ((r .count ≡ byteCall demangled f c report sets roms set logical address levels count x .count)
-        × (r .byte ≡ byteCall demangled f c report sets roms set logical address levels count x .byte))
-    byte-given g =
-        let given = value-given (ap (λ (t : ByteRead). t .number) same) (ap (λ (t : ByteRead). t .byte) same) g in
-        (given .0, (ap (λ (t : ByteRead). t .count) same, given .1))
+    pub byte-given : (number left value before : ℕ) → number ≡ r .number → left ≡ r .count → value ≡ valueAfter (r .number) (r .byte) before
+        → (number ≡ byteCall demangled f c report sets roms set logical address levels count x .number)
+        × ((left ≡ byteCall demangled f c report sets roms set logical address levels count x .count)
+        × (value ≡ valueAfter number (byteCall demangled f c report sets roms set logical address levels count x .byte) before))
+    byte-given number left value before n l v = (
+      n ∙ ap (λ (t : ByteRead). t .number) same,
+      (l ∙ ap (λ (t : ByteRead). t .count) same, v ∙ ap₂ (λ (m b : ℕ). valueAfter m b before) (sym n) (ap (λ (t : ByteRead). t .byte) same)),
+    )

@@ -1,13 +1,10 @@
 // ROM data and the byte reads as C and Rust call them: by a report handed back.
-use board::Board;
 use byte_reads::ByteRead;
 use c_report::OneromReport;
-use info::SdrrAddress;
 ghost use mathlib.Core.Path.{_≡_};
+ghost use mathlib.Core.Bool.{true, false};
 ghost use lib.ListN.{length};
-ghost use Rattle.info.specs.Lent.{lentBy};
-ghost use Rattle.info.specs.Reads.{byte, romRead, bufferLeft};
-ghost use Rattle.byte_reads.specs.Calls.{byteOf};
+ghost use Rattle.info.specs.Reads.{bufferLeft};
 ghost use Rattle.c_board.specs.Value.{valueAfter};
 ghost use Rattle.c_reads.specs.Reads.{dataCall, byteCall};
 
@@ -33,28 +30,22 @@ pub fn data_call(
     stored.number as u32
 }
 
-// One byte of a set, demangled or raw.
-fn read_byte(
-    image: &[u8],
-    board: Board,
-    set_rows: &[u32],
-    rom_rows: &[u32],
-    set: u32,
-    address: SdrrAddress,
-    demangled: bool,
-    count: u32,
-) -> ByteRead
-    ensures { λ r. ⌜ r ≡ byteOf (romRead (board .«flash_base») (board .«cs0_base») (lentBy board (now («set_rows» .entry)) (now («rom_rows» .entry))) count (byte set address demangled) (now (image .entry))) ⌝ }
+// What a byte read leaves in the lent words: the count always, the byte where it is accepted.
+fn give(read: ByteRead, count: &mut u32, value: &mut u8) -> u32
+    ensures reply { λ r. ⌜ r ≡ read .number ⌝ }
+    ensures count { λ _. ⌜ now (count .exit) ≡ read .count ⌝ }
+    ensures value { λ _. ⌜ now (value .exit) ≡ valueAfter (read .number) (read .byte) (now (value .entry)) ⌝ }
 {
-    if demangled {
-        byte_reads::read_rom_byte_demangled(image, board, set_rows, rom_rows, set, address, count)
-    } else {
-        byte_reads::read_rom_byte_raw(image, board, set_rows, rom_rows, set, address, count)
+    *count = read.count;
+    if read.number != 0 {
+        return read.number as u32;
     }
+    *value = read.byte;
+    0
 }
 
-pub fn byte_call(
-    demangled: bool,
+// Two functions, not one that is given the flag: the compiler joins each to its only caller, and the report is not copied once more.
+pub fn raw_byte_call(
     image: &[u8],
     flash_base: u32,
     cs0_base: u32,
@@ -68,17 +59,44 @@ pub fn byte_call(
     count: &mut u32,
     value: &mut u8,
 ) -> u32
-    ensures reply { λ r. ⌜ r ≡ byteCall demangled «flash_base» «cs0_base» report (now («set_rows» .entry)) (now («rom_rows» .entry)) set logical address (now (levels .entry)) (now (count .entry)) (now (image .entry)) .number ⌝ }
-    ensures count { λ r. ⌜ now (count .exit) ≡ byteCall demangled «flash_base» «cs0_base» report (now («set_rows» .entry)) (now («rom_rows» .entry)) set logical address (now (levels .entry)) (now (count .entry)) (now (image .entry)) .count ⌝ }
-    ensures value { λ r. ⌜ now (value .exit) ≡ valueAfter r (byteCall demangled «flash_base» «cs0_base» report (now («set_rows» .entry)) (now («rom_rows» .entry)) set logical address (now (levels .entry)) (now (count .entry)) (now (image .entry)) .byte) (now (value .entry)) ⌝ }
+    ensures reply { λ r. ⌜ r ≡ byteCall false «flash_base» «cs0_base» report (now («set_rows» .entry)) (now («rom_rows» .entry)) set logical address (now (levels .entry)) (now (count .entry)) (now (image .entry)) .number ⌝ }
+    ensures count { λ r. ⌜ now (count .exit) ≡ byteCall false «flash_base» «cs0_base» report (now («set_rows» .entry)) (now («rom_rows» .entry)) set logical address (now (levels .entry)) (now (count .entry)) (now (image .entry)) .count ⌝ }
+    ensures value { λ r. ⌜ now (value .exit) ≡ valueAfter r (byteCall false «flash_base» «cs0_base» report (now («set_rows» .entry)) (now («rom_rows» .entry)) set logical address (now (levels .entry)) (now (count .entry)) (now (image .entry)) .byte) (now (value .entry)) ⌝ }
 {
     let board = c_handed::board_in(flash_base, cs0_base, report);
     let at = c_board::address_from(logical, address, *levels);
-    let read = read_byte(image, board, set_rows, rom_rows, set, at, demangled, *count);
-    *count = read.count;
-    if read.number != 0 {
-        return read.number as u32;
-    }
-    *value = read.byte;
-    0
+    let raw = byte_reads::read_rom_byte_raw(image, board, set_rows, rom_rows, set, at, *count);
+    give(raw, count, value)
+}
+
+pub fn demangled_byte_call(
+    image: &[u8],
+    flash_base: u32,
+    cs0_base: u32,
+    report: OneromReport,
+    set_rows: &[u32],
+    rom_rows: &[u32],
+    set: u32,
+    logical: u8,
+    address: u32,
+    levels: &[u8; 5],
+    count: &mut u32,
+    value: &mut u8,
+) -> u32
+    ensures reply { λ r. ⌜ r ≡ byteCall true «flash_base» «cs0_base» report (now («set_rows» .entry)) (now («rom_rows» .entry)) set logical address (now (levels .entry)) (now (count .entry)) (now (image .entry)) .number ⌝ }
+    ensures count { λ r. ⌜ now (count .exit) ≡ byteCall true «flash_base» «cs0_base» report (now («set_rows» .entry)) (now («rom_rows» .entry)) set logical address (now (levels .entry)) (now (count .entry)) (now (image .entry)) .count ⌝ }
+    ensures value { λ r. ⌜ now (value .exit) ≡ valueAfter r (byteCall true «flash_base» «cs0_base» report (now («set_rows» .entry)) (now («rom_rows» .entry)) set logical address (now (levels .entry)) (now (count .entry)) (now (image .entry)) .byte) (now (value .entry)) ⌝ }
+{
+    let board = c_handed::board_in(flash_base, cs0_base, report);
+    let at = c_board::address_from(logical, address, *levels);
+    let shown = byte_reads::read_rom_byte_demangled(
+        image,
+        board,
+        set_rows,
+        rom_rows,
+        set,
+        at,
+        *count,
+    );
+    give(shown, count, value)
 }

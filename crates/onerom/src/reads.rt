@@ -85,8 +85,7 @@ pub extern "C" fn onerom_read_rom_byte_raw(
     ensures count { λ r. ⌜ now (count .exit) ≡ byteCall false «flash_base» «cs0_base» report (now («set_rows» .entry)) (now («rom_rows» .entry)) set logical address (now (levels .entry)) (now (count .entry)) (now (image .entry)) .count ⌝ }
     ensures value { λ r. ⌜ now (value .exit) ≡ valueAfter r (byteCall false «flash_base» «cs0_base» report (now («set_rows» .entry)) (now («rom_rows» .entry)) set logical address (now (levels .entry)) (now (count .entry)) (now (image .entry)) .byte) (now (value .entry)) ⌝ }
 {
-    c_reads::byte_call(
-        false,
+    c_reads::raw_byte_call(
         image,
         flash_base,
         cs0_base,
@@ -121,8 +120,7 @@ pub extern "C" fn onerom_read_rom_byte_demangled(
     ensures count { λ r. ⌜ now (count .exit) ≡ byteCall true «flash_base» «cs0_base» report (now («set_rows» .entry)) (now («rom_rows» .entry)) set logical address (now (levels .entry)) (now (count .entry)) (now (image .entry)) .count ⌝ }
     ensures value { λ r. ⌜ now (value .exit) ≡ valueAfter r (byteCall true «flash_base» «cs0_base» report (now («set_rows» .entry)) (now («rom_rows» .entry)) set logical address (now (levels .entry)) (now (count .entry)) (now (image .entry)) .byte) (now (value .entry)) ⌝ }
 {
-    c_reads::byte_call(
-        true,
+    c_reads::demangled_byte_call(
         image,
         flash_base,
         cs0_base,

@@ -1,2 +1,3 @@
+pub mod Equation
 pub mod Made
 pub mod Thin

@@ -17,13 +17,13 @@ use Rattle.walk.specs.Walk.{Rom, RomSet, romsOf}
 use Rattle.rows.specs.LentRows.{romWidth, typeWord}
 use Rattle.walk.specs.Rows.{setRows, romFront, romRows, overwritten}
 use Rattle.walk.specs.Laws.Rows.{rom-rows-length, type-words}
-use Rattle.info.specs.Lent.{Lent}
+use Rattle.info.specs.Lent.{Lent, lentBy}
 use Rattle.info.specs.Reads.{Bytes, RomRead, lengthOf, readP, Reply, readReply, romRead}
 use Rattle.info.specs.Laws.Like.{Like, read-like, read-honest, read-unserved}
 use Rattle.sdrr_info.specs.declared.Settings.{Settings}
 use Rattle.sdrr_info.specs.declared.SdrrInfo.{SdrrInfo}
+use Rattle.sdrr_info.specs.Report.{boardOf}
 use Rattle.cut_short.specs.Shown.{Kept}
-use Rattle.cut_short.specs.ReadAfter.{lentOf}
 
 -- ---- the rows
 
@@ -47,12 +47,12 @@ module _ (rs ss : List Rom) (ts us : List Text) (e : map romFront rs ≡ map rom
 
 -- ---- boards that show the same but for names and ended items
 
-module _ {r r′ : SdrrInfo} {ss ss′ : List RomSet} {names names′ : List Text} (k : Kept r ss names r′ ss′ names′) (sets roms : List ℕ) where
+module _ (s : Settings) {r r′ : SdrrInfo} {ss ss′ : List RomSet} {names names′ : List Text} (k : Kept r ss names r′ ss′ names′) (sets roms : List ℕ) where
   pub kept-like :
       (r .«rom_sets» ≡ r′ .«rom_sets») × (setRows ss ≡ setRows ss′) × (map romFront (romsOf ss) ≡ map romFront (romsOf ss′))
       → Like
-      (lentOf r (overwritten (setRows ss) sets) (overwritten (romRows (romsOf ss) names) roms))
-      (lentOf r′ (overwritten (setRows ss′) sets) (overwritten (romRows (romsOf ss′) names′) roms))
+      (lentBy (boardOf s r) (overwritten (setRows ss) sets) (overwritten (romRows (romsOf ss) names) roms))
+      (lentBy (boardOf s r′) (overwritten (setRows ss′) sets) (overwritten (romRows (romsOf ss′) names′) roms))
   kept-like e =
       record {
         lines = ap (λ f. f .«stm_line») (k .header);

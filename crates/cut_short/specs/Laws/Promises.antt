@@ -2,18 +2,14 @@
 -- of data_reads and byte_reads ensures, on a board that `board` makes of the report.
 -- Assumes nothing.
 use Prim.Native.Nat.{ℕ, _≤_}
-use mathlib.Core.Path.{_≡_, refl, ap}
+use mathlib.Core.Path.{_≡_, ap}
 use mathlib.Core.List.{List}
 use lib.ListN.{length, take}
 use Rattle.sdrr_info.specs.declared.Settings.{Settings}
-use Rattle.sdrr_info.specs.declared.SdrrInfo.{SdrrInfo}
 use Rattle.fw_parser.specs.Opening.{Opened, refused, opened, openWith}
-use Rattle.sdrr_info.specs.Report.{boardOf}
 use Rattle.fw_parser.specs.Reply.{openingReply}
 use Rattle.fw_parser.specs.Laws.Fits.{Fits, opening-fits}
 use Rattle.fw_parser.specs.Laws.Promises.{replied, setsAfter, romsAfter}
-use Rattle.info.specs.Lent.{Lent, lentBy}
-use Rattle.cut_short.specs.ReadAfter.{lentOf}
 use Rattle.cut_short.specs.Demand3.{Opens, reachWith, Demand3}
 use Rattle.cut_short.specs.Laws.Proof.{demand3}
 
@@ -39,7 +35,3 @@ module _ (s : Settings) (sets roms x : List ℕ) where
   reply-past h k l =
       let d = cut-short h k in
       (ap openingReply (d .report-past l), d .set-rows-past l, d .rom-rows-past l)
-
--- a read on the board of a report is a read on that report, of which the last clause speaks
-pub on-board : (s : Settings) (r : SdrrInfo) (sets roms : List ℕ) → lentBy (boardOf s r) sets roms ≡ lentOf r sets roms
-on-board s r sets roms = refl

@@ -16,16 +16,16 @@ use Rattle.prog.specs.Laws.Cut.{past, below, shown}
 use Rattle.text.specs.declared.Text.{Text}
 use Rattle.walk.specs.Walk.{RomSet, romsOf}
 use Rattle.walk.specs.Rows.{setRows, romRows, overwritten}
-use Rattle.info.specs.Lent.{Lent}
+use Rattle.info.specs.Lent.{Lent, lentBy}
 use Rattle.info.specs.Reads.{RomRead, readP, Reply, readReply, romRead}
 use Rattle.info.specs.Laws.Like.{Like, read-unserved}
 use Rattle.sdrr_info.specs.declared.Settings.{Settings}
-use Rattle.sdrr_info.specs.declared.SdrrInfo.{SdrrInfo}
+use Rattle.sdrr_info.specs.Report.{boardOf}
 use Rattle.fw_parser.specs.Opening.{Opened, refused, opened, openP, opening, setRowsLeft, romRowsLeft}
 use Rattle.fw_parser.specs.Reply.{noReport, openingReply}
 use Rattle.fw_parser.specs.Laws.Items.{opened-names}
 use Rattle.cut_short.specs.Shown.{EndedOpening, Kept, KeptOpening}
-use Rattle.cut_short.specs.ReadAfter.{lentOf, readAfter}
+use Rattle.cut_short.specs.ReadAfter.{readAfter}
 use Rattle.cut_short.specs.Demand3.{Opens, Demand3}
 use Rattle.cut_short.specs.Laws.CutOpening.{EndedAny, Beside, open-cut}
 use Rattle.cut_short.specs.Laws.CutReads.{kept-like, read-kept}
@@ -93,7 +93,7 @@ module _ (s : Settings) where
   -- what a refused opening handed back serves nothing
   pub refused-refuses : (sets roms : List ℕ) (n count : ℕ) (r : RomRead) (x : List ℕ) → readAfter s sets roms (refused n) count r x .number ≡ 0 → ⊥
   unfolding openingReply noReport
-  refused-refuses sets roms n count r x h = unserved-refuses (lentOf noReport sets roms) count r x refl h
+  refused-refuses sets roms n count r x h = unserved-refuses (lentBy (boardOf s noReport) sets roms) count r x refl h
 
   reads-whole : (sets roms x : List ℕ) (k : ℕ) (o w : Opened) → outside s x ≡ false → Opens w → KeptOpening o w → (count : ℕ) (r : RomRead)
       → readAfter s sets roms o count r (take k x) .number ≡ 0 → readAfter s sets roms w count r x ≡ readAfter s sets roms o count r (take k x)
@@ -103,8 +103,8 @@ module _ (s : Settings) where
   reads-whole sets roms x k (opened report ss names) (opened report′ ss′ names′) inside p kept count r h =
       ⊎-elim
       (λ (e : (report .«rom_sets» .number ≡ 2) × (report .«rom_sets» .served ≡ 0)).
-      absurd (unserved-refuses (lentOf report (overwritten (setRows ss) sets) (overwritten (romRows (romsOf ss) names) roms)) count r (take k x) (e .1) h))
-      (λ e. read-whole (kept-like kept sets roms e) count r x k inside h) (kept .sets)
+      absurd (unserved-refuses (lentBy (boardOf s report) (overwritten (setRows ss) sets) (overwritten (romRows (romsOf ss) names) roms)) count r (take k x) (e .1) h))
+      (λ e. read-whole (kept-like s kept sets roms e) count r x k inside h) (kept .sets)
 
 pub demand3 : (s : Settings) (sets roms x : List ℕ) → Opens (opening s (length sets) (length roms) x) → (k : ℕ) → Demand3 s sets roms x k
 demand3 s sets roms x o k =

@@ -21,9 +21,10 @@ use Rattle.byte_reads.specs.Calls.{byteOf}
 use Rattle.info.specs.Laws.History.{refused-changes-nothing}
 use Rattle.sdrr_info.specs.declared.Settings.{Settings}
 use Rattle.sdrr_info.specs.declared.SdrrInfo.{SdrrInfo}
+use Rattle.sdrr_info.specs.Report.{boardOf}
 use Rattle.fw_parser.specs.Opening.{Opened, refused, opening, setRowsLeft, romRowsLeft}
 use Rattle.fw_parser.specs.Reply.{openingReply}
-use Rattle.cut_short.specs.ReadAfter.{lentOf, readAfter}
+use Rattle.cut_short.specs.ReadAfter.{readAfter}
 use Rattle.cut_short.specs.Demand3.{Opens, Demand3}
 use Rattle.cut_short.specs.Laws.Proof.{demand3, refused-refuses}
 use Rattle.c_board.specs.Board.{addressFrom}
@@ -88,10 +89,10 @@ read-by : (f c : ℕ) (m n : McuLine) (p : PinsItem) (served : ℕ) (sets roms :
 unfolding lent romRead
 read-by f c m n p served sets roms count r x e = rw (e, same-reads (baseAfter f c n) m n p served sets roms count r) refl
 
-pub handed-read : (f c : ℕ) (i : SdrrInfo) (sets roms : List ℕ) (count : ℕ) (r : RomRead) (x : List ℕ)
-    → romRead f c (lentBy (boardIn f c (reportOut i)) sets roms) count r x ≡ romRead f c (lentOf i sets roms) count r x
+pub handed-read : (s : Settings) (f c : ℕ) (i : SdrrInfo) (sets roms : List ℕ) (count : ℕ) (r : RomRead) (x : List ℕ)
+    → romRead f c (lentBy (boardIn f c (reportOut i)) sets roms) count r x ≡ romRead f c (lentBy (boardOf s i) sets roms) count r x
 unfolding lent
-handed-read f c i sets roms count r x =
+handed-read s f c i sets roms count r x =
     let b = boardIn f c (reportOut i) in
     let h = handed-back f c i in
     read-by f c (b .line) (i .fields .«stm_line») (b .pins) (b .served) sets roms count r x (h .base)
@@ -116,14 +117,14 @@ module _ (f c : ℕ) (sets roms : List ℕ) where
       → dataAfter p set offset n count x ≡ readAfter (settings o) sets roms p count (range set offset n) x
   data-after o p set offset n count x =
       data-is-read f c (openingOut p .report) (setRowsLeft p sets) (romRowsLeft p roms) set offset n count x
-      ∙ handed-read f c (openingReply p .info) (setRowsLeft p sets) (romRowsLeft p roms) count (range set offset n) x
+      ∙ handed-read (settings o) f c (openingReply p .info) (setRowsLeft p sets) (romRowsLeft p roms) count (range set offset n) x
 
   byte-after : (o : ℕ) (demangled : Bool) (p : Opened) (set logical address : ℕ) (levels : List ℕ) (count : ℕ) (x : List ℕ)
       → byteAfter demangled p set logical address levels count x
       ≡ byteOf (readAfter (settings o) sets roms p count (byte set (addressFrom logical address levels) demangled) x)
   byte-after o demangled p set logical address levels count x =
       byte-is-read demangled f c (openingOut p .report) (setRowsLeft p sets) (romRowsLeft p roms) set logical address levels count x
-      ∙ ap byteOf (handed-read f c (openingReply p .info) (setRowsLeft p sets) (romRowsLeft p roms) count (byte set (addressFrom logical address levels) demangled) x)
+      ∙ ap byteOf (handed-read (settings o) f c (openingReply p .info) (setRowsLeft p sets) (romRowsLeft p roms) count (byte set (addressFrom logical address levels) demangled) x)
 
   -- what a refused opening handed back serves no read
   pub refused-serves-no-data : (n set offset m count : ℕ) (x : List ℕ) → dataAfter (refused n) set offset m count x .number ≡ 0 → ⊥

@@ -1,6 +1,6 @@
 // Base-zero: the pins of a record, counted from the least of them (info.rs `base_zero`).
+use board::BoardPins;
 use least_pin::least_pin;
-use pins::SdrrPins;
 ghost use mathlib.Core.Path.{_≡_};
 ghost use mathlib.Core.List.{map};
 ghost use Prim.Native.Nat.{_-_};
@@ -34,14 +34,14 @@ fn lower_all(m: u8, ps: [u8; 16]) -> [u8; 16]
 }
 
 // What the control pins go down by, where m is the least pin.
-pub fn control_least(m: u8, pins: SdrrPins) -> u8
+pub fn control_least(m: u8, pins: BoardPins) -> u8
     ensures { λ r. ⌜ r ≡ pick (has24 pins) m 0 ⌝ }
 {
     if pins.rom_pins == 24 { m } else { 0 }
 }
 
 // The address pins go down by m, the control pins by k.
-fn lowered_by(m: u8, k: u8, pins: SdrrPins) -> SdrrPins
+fn lowered_by(m: u8, k: u8, pins: BoardPins) -> BoardPins
     ensures { λ r. ⌜ r ≡ loweredBy m k pins ⌝ }
 {
     let a = pins.addr;
@@ -58,7 +58,7 @@ fn lowered_by(m: u8, k: u8, pins: SdrrPins) -> SdrrPins
     p
 }
 
-pub fn base_zero(pins: SdrrPins) -> SdrrPins
+pub fn base_zero(pins: BoardPins) -> BoardPins
     ensures { λ r. ⌜ r ≡ baseZero pins ⌝ }
 {
     let m = least_pin(pins);

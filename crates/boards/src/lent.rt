@@ -3,13 +3,14 @@ use super::calls;
 use super::record;
 use super::words;
 use board::Board;
+use board::BoardPins;
 use pins::PinsItem;
 
 // The pins item: the pins of a record of 88 bytes, with a number of its own.
-fn pins(bytes: &[u8], number: u8) -> PinsItem {
+fn pins(bytes: &[u8], number: u8) -> BoardPins {
     let item = pins_record::parse_pins(bytes);
     let pins = item.pins;
-    PinsItem { number, pins }
+    board::board_pins(PinsItem { number, pins })
 }
 
 fn board(given: &[u8]) -> Board {

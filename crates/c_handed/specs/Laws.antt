@@ -6,18 +6,15 @@ use Rattle.window.specs.Window.{baseAfter}
 use Rattle.types.specs.declared.McuLine.{McuLine}
 use Rattle.types.specs.Types.{isRp2350}
 use Rattle.type_numbers.specs.TypeNumbers.{lineNumber}
-use Rattle.type_numbers.specs.Laws.{port-again}
 use Rattle.pins.specs.declared.PinsItem.{PinsItem}
+use Rattle.board.specs.Board.{boardPins}
 use Rattle.sdrr_info.specs.declared.SdrrInfo.{SdrrInfo}
 use Rattle.c_report.specs.Report.{headerOut, setsOut, pinsOut, reportOut}
 use Rattle.c_handed.specs.Handed.{lineIn, pinsIn, boardIn}
 
-pins-back : (i : PinsItem) → pinsIn (pinsOut i) ≡ i
-unfolding pinsIn pinsOut
-pins-back i =
-    rw
-    (port-again (i .pins .«data_port»), port-again (i .pins .«addr_port»), port-again (i .pins .«cs_port»), port-again (i .pins .«sel_port»), port-again (i .pins .«status_port»))
-    refl
+pins-back : (i : PinsItem) → pinsIn (pinsOut i) ≡ boardPins i
+unfolding pinsIn pinsOut boardPins
+pins-back i = refl
 
 base-back : (f c : ℕ) (l : McuLine) → baseAfter f c (lineIn (lineNumber l)) ≡ baseAfter f c l
 unfolding isRp2350
@@ -30,7 +27,7 @@ base-back f c McuLine.Rp2350 = refl
 
 pub record Handed (flashBase cs0Base : ℕ) (r : SdrrInfo) : Type 0 where
   pub base : baseAfter flashBase cs0Base (boardIn flashBase cs0Base (reportOut r) .line) ≡ baseAfter flashBase cs0Base (r .fields .«stm_line»)
-  pub pins : boardIn flashBase cs0Base (reportOut r) .pins ≡ r .pins
+  pub pins : boardIn flashBase cs0Base (reportOut r) .pins ≡ boardPins (r .pins)
   pub served : boardIn flashBase cs0Base (reportOut r) .served ≡ r .«rom_sets» .served
 
 pub handed-back : (flashBase cs0Base : ℕ) (r : SdrrInfo) → Handed flashBase cs0Base r

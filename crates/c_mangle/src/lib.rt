@@ -18,7 +18,7 @@ pub fn mangle_call(
     ensures reply { λ r. ⌜ r ≡ mangleCall «pins_number» «rom_pins» (now (addr .entry)) (now (control .entry)) served (now («set_rows» .entry)) (now («rom_rows» .entry)) address (now (levels .entry)) .number ⌝ }
     ensures value { λ r. ⌜ now (value .exit) ≡ valueAfter r (mangleCall «pins_number» «rom_pins» (now (addr .entry)) (now (control .entry)) served (now («set_rows» .entry)) (now («rom_rows» .entry)) address (now (levels .entry)) .value) (now (value .entry)) ⌝ }
 {
-    let pins = c_board::pins_from(rom_pins, [0, 0, 0, 0, 0, 0, 0, 0], *addr, *control);
+    let pins = c_board::pins_from(pins_number, rom_pins, [0; 8], *addr, *control);
     let set = c_board::levels_from(*levels);
     let g = governing::governing_set_0(pins_number, served, set_rows, rom_rows);
     let m = info::mangle_by(g, pins, address, set);
@@ -33,10 +33,7 @@ pub fn demangle_call(pins_number: u8, data: &[u8; 8], byte: u8, value: &mut u8) 
     ensures reply { λ r. ⌜ r ≡ demangleCall «pins_number» (now («data» .entry)) byte .number ⌝ }
     ensures value { λ r. ⌜ now (value .exit) ≡ valueAfter r (demangleCall «pins_number» (now («data» .entry)) byte .value) (now (value .entry)) ⌝ }
 {
-    let none = [0, 0, 0, 0, 0, 0, 0, 0, 0, 0, 0, 0, 0, 0, 0, 0];
-    let pins = c_board::pins_from(0, *data, none, [0, 0, 0, 0, 0, 0, 0]);
-    let item = c_board::pins_item(pins_number, pins);
-    let r = info::demangle_byte(item, byte);
+    let r = info::demangle_by(pins_number, *data, byte);
     if r.number != 0 {
         return r.number as u32;
     }

@@ -1,20 +1,25 @@
 -- The reads by a report handed back, put together from what they call.
 -- Assumes nothing.
 use Prim.Native.Nat.{ℕ}
-use mathlib.Core.Path.{_≡_, sym, ap, ap₂, _∙_}
-use mathlib.Core.Bool.{Bool}
+use mathlib.Core.Path.{_≡_, refl, sym, ap, ap₂, _∙_}
+use mathlib.Core.Bool.{Bool, true, false}
 use mathlib.Core.List.{List, []}
-use Rattle.info.specs.declared.SdrrAddress.{SdrrAddress}
-use Rattle.info.specs.Lent.{lentBy}
-use Rattle.info.specs.Reads.{range, byte, Reply, romRead, bufferLeft}
+use borrow.Author.Tests.{eq-eqb, ne-eqb}
+use Rattle.types.specs.declared.McuLine.{McuLine}
+use Rattle.types.specs.declared.SdrrCsSet.{SdrrCsSet}
+use Rattle.mangle.specs.declared.Mangled.{Mangled}
+use Rattle.info.specs.Lent.{lentBy, mangleAddress}
+use Rattle.info.specs.Reads.{range, Reply, romRead, bufferLeft}
 use Rattle.board.specs.declared.Board.{Board}
+use Rattle.board.specs.declared.BoardPins.{BoardPins}
 use Rattle.data_reads.specs.declared.Counted.{Counted}
 use Rattle.byte_reads.specs.declared.ByteRead.{ByteRead}
 use Rattle.data_reads.specs.Calls.{countedOf}
-use Rattle.byte_reads.specs.Calls.{byteOf}
+use Rattle.byte_reads.specs.Code.{byteAt, physicalBy, shownFrom}
+use Rattle.byte_reads.specs.Laws.Steps.{byte-raw, byte-demangled}
 use Rattle.c_report.specs.declared.OneromReport.{OneromReport}
-use Rattle.c_handed.specs.Handed.{boardIn}
-use Rattle.c_board.specs.Board.{addressFrom}
+use Rattle.c_handed.specs.Handed.{lineIn, pinsIn, boardIn}
+use Rattle.c_board.specs.Board.{levelsFrom, addressFrom}
 use Rattle.c_board.specs.Value.{valueAfter}
 use Rattle.c_reads.specs.Reads.{dataCall, byteCall}
 
@@ -36,22 +41,38 @@ module _ (f c : ℕ) (report : OneromReport) (sets : List ℕ) (set offset count
       let told = h ∙ ap countedOf (at-board b e) in
       (ap (λ (t : Counted). t .number) told, (l ∙ ap (λ (t : Reply). bufferLeft t lent) (at-board b e), ap (λ (t : Counted). t .count) told))
 
--- a byte read by the board and the address as they are made of what is handed over: what it leaves
+-- ---- a byte read by what is handed over: where its address leads
+
+module _ (p : BoardPins) (served : ℕ) (sets roms : List ℕ) (logical address : ℕ) (levels : List ℕ) where
+  pub raw-leads : (logical ≡ 1 → ⊥) → (m : Mangled) → m ≡ record { number = 0; value = address } → m ≡ physicalBy p served sets roms (addressFrom logical address levels)
+  raw-leads h m e = e ∙ rw (ne-eqb logical 1 h) refl
+
+  pub logical-leads : logical ≡ 1 → (q : BoardPins) → q ≡ p → (s : SdrrCsSet) → s ≡ levelsFrom levels
+      → (m : Mangled) → m ≡ mangleAddress q served sets roms address s → m ≡ physicalBy p served sets roms (addressFrom logical address levels)
+  logical-leads h q e s f m g = g ∙ ap₂ (λ (t : BoardPins) (u : SdrrCsSet). mangleAddress t served sets roms address u) e f ∙ rw (eq-eqb logical 1 h) refl
+
+-- ---- what it leaves
+
+module _ (f c : ℕ) (report : OneromReport) (sets roms : List ℕ) (set logical address : ℕ) (levels : List ℕ) (count : ℕ) (x : List ℕ)
+    (line : McuLine) (told : line ≡ lineIn (report .header .line))
+    (m : Mangled) (leads : m ≡ physicalBy (pinsIn (report .pins)) (report .«rom_sets» .served) sets roms (addressFrom logical address levels))
+    (raw : ByteRead) (read : raw ≡ byteAt f c line (report .«rom_sets» .served) sets set m count x) where
+  pub raw-read : raw ≡ byteCall false f c report sets roms set logical address levels count x
+  unfolding byteCall boardIn
+  raw-read = byte-raw f c (lentBy (boardIn f c report) sets roms) count x set (addressFrom logical address levels) m leads raw (read ∙ rw told refl)
+
+  pub shown-read : (shown : ByteRead) → shown ≡ shownFrom (report .pins .number) (report .pins .«data») raw count
+      → shown ≡ byteCall true f c report sets roms set logical address levels count x
+  unfolding byteCall boardIn pinsIn
+  shown-read shown e = byte-demangled f c (lentBy (boardIn f c report) sets roms) count x set (addressFrom logical address levels) raw raw-read shown e
+
 module _ (demangled : Bool) (f c : ℕ) (report : OneromReport) (sets roms : List ℕ) (set logical address : ℕ) (levels : List ℕ) (count : ℕ) (x : List ℕ) where
-  by-address : Board → SdrrAddress → ByteRead
-  by-address b a = byteOf (romRead (b .«flash_base») (b .«cs0_base») (lentBy b sets roms) count (byte set a demangled) x)
-
-  module _ (b : Board) (a : SdrrAddress) (r : ByteRead) (made : b ≡ boardIn f c report) (at : a ≡ addressFrom logical address levels)
-      (h : r ≡ byteOf (romRead (b .«flash_base») (b .«cs0_base») (lentBy b sets roms) count (byte set a demangled) x)) where
-    same : r ≡ byteCall demangled f c report sets roms set logical address levels count x
-    unfolding by-address byteCall boardIn
-    same = h ∙ ap₂ by-address made at
-
-    pub byte-given : (number left value before : ℕ) → number ≡ r .number → left ≡ r .count → value ≡ valueAfter (r .number) (r .byte) before
-        → (number ≡ byteCall demangled f c report sets roms set logical address levels count x .number)
-        × ((left ≡ byteCall demangled f c report sets roms set logical address levels count x .count)
-        × (value ≡ valueAfter number (byteCall demangled f c report sets roms set logical address levels count x .byte) before))
-    byte-given number left value before n l v = (
-      n ∙ ap (λ (t : ByteRead). t .number) same,
-      (l ∙ ap (λ (t : ByteRead). t .count) same, v ∙ ap₂ (λ (m b : ℕ). valueAfter m b before) (sym n) (ap (λ (t : ByteRead). t .byte) same)),
-    )
+  pub byte-given : (r : ByteRead) → r ≡ byteCall demangled f c report sets roms set logical address levels count x
+      → (number left value before : ℕ) → number ≡ r .number → left ≡ r .count → value ≡ valueAfter (r .number) (r .byte) before
+      → (number ≡ byteCall demangled f c report sets roms set logical address levels count x .number)
+      × ((left ≡ byteCall demangled f c report sets roms set logical address levels count x .count)
+      × (value ≡ valueAfter number (byteCall demangled f c report sets roms set logical address levels count x .byte) before))
+  byte-given r same number left value before n l v = (
+    n ∙ ap (λ (t : ByteRead). t .number) same,
+    (l ∙ ap (λ (t : ByteRead). t .count) same, v ∙ ap₂ (λ (m b : ℕ). valueAfter m b before) (sym n) (ap (λ (t : ByteRead). t .byte) same)),
+  )

@@ -1,6 +1,7 @@
 // ROM data and the byte reads as C and Rust call them: by a report handed back.
 use byte_reads::ByteRead;
 use c_report::OneromReport;
+use mangle::Mangled;
 ghost use mathlib.Core.Path.{_≡_};
 ghost use mathlib.Core.Bool.{true, false};
 ghost use lib.ListN.{length};
@@ -44,7 +45,18 @@ fn give(read: ByteRead, count: &mut u32, value: &mut u8) -> u32
     0
 }
 
-// Two functions, not one that is given the flag: the compiler joins each to its only caller, and the report is not copied once more.
+// A raw offset, which no pin has a part in.
+fn offset(address: u32) -> Mangled
+    ensures { λ r. ⌜ r ≡ record { number = 0; value = address } ⌝ }
+{
+    Mangled {
+        number: 0,
+        value: address,
+    }
+}
+
+// Two functions, not one that is given the flag: the compiler joins each to its only caller, and the report is not copied once more. For the
+// same reason a read by a raw offset, which looks at no pin and no ROM row, carries neither.
 pub fn raw_byte_call(
     image: &[u8],
     flash_base: u32,
@@ -63,9 +75,40 @@ pub fn raw_byte_call(
     ensures count { λ r. ⌜ now (count .exit) ≡ byteCall false «flash_base» «cs0_base» report (now («set_rows» .entry)) (now («rom_rows» .entry)) set logical address (now (levels .entry)) (now (count .entry)) (now (image .entry)) .count ⌝ }
     ensures value { λ r. ⌜ now (value .exit) ≡ valueAfter r (byteCall false «flash_base» «cs0_base» report (now («set_rows» .entry)) (now («rom_rows» .entry)) set logical address (now (levels .entry)) (now (count .entry)) (now (image .entry)) .byte) (now (value .entry)) ⌝ }
 {
-    let board = c_handed::board_in(flash_base, cs0_base, report);
-    let at = c_board::address_from(logical, address, *levels);
-    let raw = byte_reads::read_rom_byte_raw(image, board, set_rows, rom_rows, set, at, *count);
+    let header = report.header;
+    let line = c_handed::line_in(header.line);
+    let rom_sets = report.rom_sets;
+    let served = rom_sets.served;
+    let before = *count;
+    if logical != 1 {
+        let m = offset(address);
+        let raw = byte_reads::byte_at(
+            image,
+            flash_base,
+            cs0_base,
+            line,
+            served,
+            set_rows,
+            set,
+            m,
+            before,
+        );
+        return give(raw, count, value);
+    }
+    let pins = c_handed::pins_in(report.pins);
+    let cs_set = c_board::levels_from(*levels);
+    let m = info::mangle_address(pins, served, set_rows, rom_rows, address, cs_set);
+    let raw = byte_reads::byte_at(
+        image,
+        flash_base,
+        cs0_base,
+        line,
+        served,
+        set_rows,
+        set,
+        m,
+        before,
+    );
     give(raw, count, value)
 }
 
@@ -87,16 +130,49 @@ pub fn demangled_byte_call(
     ensures count { λ r. ⌜ now (count .exit) ≡ byteCall true «flash_base» «cs0_base» report (now («set_rows» .entry)) (now («rom_rows» .entry)) set logical address (now (levels .entry)) (now (count .entry)) (now (image .entry)) .count ⌝ }
     ensures value { λ r. ⌜ now (value .exit) ≡ valueAfter r (byteCall true «flash_base» «cs0_base» report (now («set_rows» .entry)) (now («rom_rows» .entry)) set logical address (now (levels .entry)) (now (count .entry)) (now (image .entry)) .byte) (now (value .entry)) ⌝ }
 {
-    let board = c_handed::board_in(flash_base, cs0_base, report);
-    let at = c_board::address_from(logical, address, *levels);
-    let shown = byte_reads::read_rom_byte_demangled(
+    let header = report.header;
+    let line = c_handed::line_in(header.line);
+    let rom_sets = report.rom_sets;
+    let served = rom_sets.served;
+    let before = *count;
+    let held = report.pins;
+    let data = held.data;
+    if logical != 1 {
+        let m = offset(address);
+        let raw = byte_reads::byte_at(
+            image,
+            flash_base,
+            cs0_base,
+            line,
+            served,
+            set_rows,
+            set,
+            m,
+            before,
+        );
+        return give(
+            byte_reads::shown_byte(held.number, data, raw, before),
+            count,
+            value,
+        );
+    }
+    let pins = c_handed::pins_in(held);
+    let cs_set = c_board::levels_from(*levels);
+    let m = info::mangle_address(pins, served, set_rows, rom_rows, address, cs_set);
+    let raw = byte_reads::byte_at(
         image,
-        board,
+        flash_base,
+        cs0_base,
+        line,
+        served,
         set_rows,
-        rom_rows,
         set,
-        at,
-        *count,
+        m,
+        before,
     );
-    give(shown, count, value)
+    give(
+        byte_reads::shown_byte(held.number, data, raw, before),
+        count,
+        value,
+    )
 }

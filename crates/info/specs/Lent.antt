@@ -6,8 +6,7 @@ use lib.Dec.{eqb}
 use Rattle.base.specs.Choice.{pick}
 use Rattle.types.specs.declared.McuLine.{McuLine}
 use Rattle.types.specs.declared.SdrrCsSet.{SdrrCsSet}
-use Rattle.pins.specs.declared.SdrrPins.{SdrrPins}
-use Rattle.pins.specs.declared.PinsItem.{PinsItem}
+use Rattle.board.specs.declared.BoardPins.{BoardPins}
 pub use Rattle.rows.specs.LentRows.{hasSetRow, hasRomRow, setWord, dataPointer, sizeOf, firstRom, romCount, serveOf, typeWord, badRomRow, setNumber}
 use Rattle.board.specs.declared.Board.{Board}
 use Rattle.governing.specs.declared.GoverningSet.{GoverningSet}
@@ -24,16 +23,19 @@ abbrev pub unmangled : ℕ → Mangled
 unmangled n = record { number = n; value = 0 }
 
 -- mangling by what governs: 72 to 78
-unfoldable pub mangledBy : GoverningSet → SdrrPins → ℕ → SdrrCsSet → Mangled
+unfoldable pub mangledBy : GoverningSet → BoardPins → ℕ → SdrrCsSet → Mangled
 mangledBy g pins address levels =
     pick (not (eqb (g .number) 0)) (unmangled (g .number)) (mangleCore pins (g .«rom_count») (g .«rom_type») address levels)
 
-unfoldable pub mangleAddress : PinsItem → (served : ℕ) → (sets roms : List ℕ) → ℕ → SdrrCsSet → Mangled
-mangleAddress pins served sets roms address levels = mangledBy (governingSet0 (pins .number) served sets roms) (pins .pins) address levels
+unfoldable pub mangleAddress : BoardPins → (served : ℕ) → (sets roms : List ℕ) → ℕ → SdrrCsSet → Mangled
+mangleAddress pins served sets roms address levels = mangledBy (governingSet0 (pins .number) served sets roms) pins address levels
 
 -- 70: no pins. Then 79.
-unfoldable pub demangleByte : PinsItem → ℕ → Demangled
-demangleByte pins byte = pick (not (eqb (pins .number) 0)) (record { number = 70; value = 0 }) (demangle (pins .pins .«data») byte)
+abbrev pub demangledBy : (number : ℕ) → (dataPins : List ℕ) → ℕ → Demangled
+demangledBy number dataPins byte = pick (not (eqb number 0)) (record { number = 70; value = 0 }) (demangle dataPins byte)
+
+unfoldable pub demangleByte : BoardPins → ℕ → Demangled
+demangleByte pins byte = demangledBy (pins .number) (pins .«data») byte
 
 -- ---- size
 
@@ -45,11 +47,11 @@ sizeCall served sets i = pick (eqb (setNumber served sets i) 0) (record { number
 
 -- ---- all that later calls look at
 
--- Of the report the line, the pins item and the sets served; and the rows, in words.
+-- Of the report the line, the sets served and the pins as reads look at them; and the rows, in words.
 -- 01 coins "lent" for memory that a caller hands to a call, and "served" for the sets that 71 and 80 go by.
 pub record Lent : Type 0 where
   pub line : McuLine
-  pub pins : PinsItem
+  pub pins : BoardPins
   pub served : ℕ
   pub setWords : List ℕ
   pub romWords : List ℕ

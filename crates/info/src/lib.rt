@@ -1,12 +1,11 @@
 // The calls on an opened board (info.rs): mangling by set 0, demangling. They go by the report and rows as lent.
+use board::BoardPins;
 use demangle::Demangled;
 use governing::GoverningSet;
 use mangle::Mangled;
-use pins::PinsItem;
-use pins::SdrrPins;
 use types::SdrrCsSet;
 ghost use mathlib.Core.Path.{_≡_};
-ghost use Rattle.info.specs.Lent.{unmangled, mangledBy, mangleAddress, demangleByte};
+ghost use Rattle.info.specs.Lent.{unmangled, mangledBy, mangleAddress, demangledBy, demangleByte};
 
 // An address in a set: a raw offset, or a logical address with its levels.
 pub enum SdrrAddress {
@@ -26,7 +25,7 @@ fn unmangled_by(number: u8) -> Mangled
     Mangled { number, value: 0 }
 }
 
-pub fn mangle_by(set: GoverningSet, pins: SdrrPins, address: u32, cs_set: SdrrCsSet) -> Mangled
+pub fn mangle_by(set: GoverningSet, pins: BoardPins, address: u32, cs_set: SdrrCsSet) -> Mangled
     ensures { λ r. ⌜ r ≡ mangledBy «set» pins address «cs_set» ⌝ }
 {
     if set.number != 0 {
@@ -38,7 +37,7 @@ pub fn mangle_by(set: GoverningSet, pins: SdrrPins, address: u32, cs_set: SdrrCs
 }
 
 pub fn mangle_address(
-    pins: PinsItem,
+    pins: BoardPins,
     served: u32,
     set_rows: &[u32],
     rom_rows: &[u32],
@@ -48,20 +47,25 @@ pub fn mangle_address(
     ensures { λ r. ⌜ r ≡ mangleAddress pins served (now («set_rows» .entry)) (now («rom_rows» .entry)) address «cs_set» ⌝ }
 {
     let g = governing::governing_set_0(pins.number, served, set_rows, rom_rows);
-    let p = pins.pins;
-    mangle_by(g, p, address, cs_set)
+    mangle_by(g, pins, address, cs_set)
 }
 
-pub fn demangle_byte(pins: PinsItem, byte: u8) -> Demangled
-    ensures { λ r. ⌜ r ≡ demangleByte pins byte ⌝ }
+// By the number of the pins item and its data pins.
+pub fn demangle_by(pins_number: u8, data: [u8; 8], byte: u8) -> Demangled
+    ensures { λ r. ⌜ r ≡ demangledBy «pins_number» «data» byte ⌝ }
 {
-    if pins.number != 0 {
+    if pins_number != 0 {
         return Demangled {
             number: 70,
             value: 0,
         };
     }
-    let p = pins.pins;
-    let data = p.data;
     demangle::demangle_core(data, byte)
+}
+
+pub fn demangle_byte(pins: BoardPins, byte: u8) -> Demangled
+    ensures { λ r. ⌜ r ≡ demangleByte pins byte ⌝ }
+{
+    let data = pins.data;
+    demangle_by(pins.number, data, byte)
 }

@@ -11,7 +11,7 @@ use lib.ListN.{length, getD, drop, drop-of-length-le}
 use lib.Seq.{drop-cons}
 use borrow.Author.Tests.{ltb-true, ltb-false, lt-ltb, le-ltb}
 use Rattle.base.specs.Choice.{pick}
-use Rattle.pins.specs.declared.SdrrPins.{SdrrPins}
+use Rattle.board.specs.declared.BoardPins.{BoardPins}
 use Rattle.least_pin.specs.LeastPin.{has24, controls, leastOf, leastPin}
 
 unfoldable pub lesser : (a b : ℕ) → ℕ
@@ -147,7 +147,7 @@ least-at (p ∷ ps) m zero h =
     omega arith
 least-at (p ∷ ps) m (suc i) h = least-at ps (pick (ltb p m) p m) i (le-of-suc-le-suc h)
 
-pub least-from : (pins : SdrrPins) → allFrom (leastPin pins) (pins .addr)
+pub least-from : (pins : BoardPins) → allFrom (leastPin pins) (pins .addr)
 unfolding leastPin
 least-from pins i h =
     let k = least-le (pick (has24 pins) (controls pins) []) (leastOf (pins .addr) 255) in

@@ -1,5 +1,5 @@
 // The least pin of a record, from which base-zero counts (info.rs `base_zero`).
-use pins::SdrrPins;
+use board::BoardPins;
 ghost use mathlib.Core.Path.{_≡_};
 ghost use Rattle.least_pin.specs.LeastPin.{leastOf, leastPin};
 ghost use Rattle.least_pin.specs.Laws.{lesser, leastOfFour};
@@ -28,7 +28,7 @@ fn least_address(a: [u8; 16]) -> u8
 }
 
 // Base-zero goes by the record's own byte and not by the type.
-pub fn least_pin(pins: SdrrPins) -> u8
+pub fn least_pin(pins: BoardPins) -> u8
     ensures { λ r. ⌜ r ≡ leastPin pins ⌝ }
 {
     let addr = pins.addr;

@@ -6,10 +6,9 @@ use lib.ListN.{replicate}
 use Rattle.types.specs.Types.{isHigh}
 use Rattle.type_numbers.specs.TypeNumbers.{romTypeNumber}
 use Rattle.types.specs.declared.Level.{Level}
-use Rattle.types.specs.declared.SdrrMcuPort.{SdrrMcuPort}
 use Rattle.types.specs.declared.SdrrRomType.{SdrrRomType}
 use Rattle.types.specs.declared.SdrrCsSet.{SdrrCsSet}
-use Rattle.pins.specs.declared.SdrrPins.{SdrrPins}
+use Rattle.board.specs.declared.BoardPins.{BoardPins}
 use Rattle.demangle.specs.Bits.{bitAt, takenBit, gather}
 use Rattle.least_pin.specs.LeastPin.{leastOf, leastPin}
 use Rattle.base_zero.specs.BaseZero.{lowered, loweredBy, baseZero}
@@ -19,42 +18,20 @@ use Rattle.mangle.specs.PinMap.{withAddress, withX, controlOff, withCont
 use Rattle.mangle.specs.Mangle.{mangleBy, mangleOf, mangleCore}
 
 -- 24 pins, these address pins and CS1 to CS3, the others 255
-abbrev pub board : List ℕ → (cs1 cs2 cs3 : ℕ) → SdrrPins
+abbrev pub board : List ℕ → (cs1 cs2 cs3 : ℕ) → BoardPins
 board address c1 c2 c3 =
     record {
-      «data_port» = SdrrMcuPort.None;
-      «addr_port» = SdrrMcuPort.None;
-      «cs_port» = SdrrMcuPort.None;
-      «sel_port» = SdrrMcuPort.None;
-      «status_port» = SdrrMcuPort.None;
+      number = 0;
       «rom_pins» = 24;
       «data» = replicate 8 255;
       addr = address;
       cs1 = c1;
       cs2 = c2;
       cs3 = c3;
-      reserved2a = 255;
-      reserved2b = 255;
-      reserved2c = 255;
       x1 = 255;
       x2 = 255;
       ce = 255;
       oe = 255;
-      «x_jumper_pull» = 255;
-      «swclk_sel» = 255;
-      «swdio_sel» = 255;
-      sel0 = 255;
-      sel1 = 255;
-      sel2 = 255;
-      sel3 = 255;
-      sel4 = 255;
-      sel5 = 255;
-      sel6 = 255;
-      «sel_jumper_pull» = 255;
-      status = 255;
-      extended = 255;
-      data2 = replicate 8 255;
-      addr2 = replicate 16 255;
     }
 
 -- pins 0..10
@@ -62,7 +39,7 @@ abbrev eleven : List ℕ
 eleven = 0 ∷ 1 ∷ 2 ∷ 3 ∷ 4 ∷ 5 ∷ 6 ∷ 7 ∷ 8 ∷ 9 ∷ 10 ∷ []
 
 -- address pins 0..12 and CS1 13, each raised by k
-abbrev pub board2364 : ℕ → SdrrPins
+abbrev pub board2364 : ℕ → BoardPins
 board2364 k = board (map (λ p. k + p) (eleven ++ (11 ∷ 12 ∷ [])) ++ replicate 3 255) (k + 13) 255 255
 
 -- CS1 and CS2 as given, the other levels not given

@@ -6,7 +6,7 @@ use lib.Dec.{eqb}
 use Rattle.base.specs.Choice.{pick}
 use Rattle.types.specs.declared.SdrrRomType.{SdrrRomType}
 use Rattle.types.specs.declared.SdrrCsSet.{SdrrCsSet}
-use Rattle.pins.specs.declared.SdrrPins.{SdrrPins}
+use Rattle.board.specs.declared.BoardPins.{BoardPins}
 use Rattle.demangle.specs.Bits.{gather}
 use Rattle.rom_rules.specs.Rules.{mangleNumber}
 use Rattle.input_word.specs.Input.{levels, inputWord}
@@ -28,8 +28,8 @@ mangleBy m count type address ls =
     mangledTo (mangleNumber (m .number) type address) (place (m .map) (inputWord type count ls address))
 
 -- the type is that of the first ROM; with count 0 there is none, and 74 comes whatever the type is
-unfoldable pub mangleOf : SdrrPins → ℕ → SdrrRomType → ℕ → List Bool → Mangled
+unfoldable pub mangleOf : BoardPins → ℕ → SdrrRomType → ℕ → List Bool → Mangled
 mangleOf pins count type = mangleBy (pinMap pins count type) count type
 
-unfoldable pub mangleCore : SdrrPins → ℕ → SdrrRomType → ℕ → SdrrCsSet → Mangled
+unfoldable pub mangleCore : BoardPins → ℕ → SdrrRomType → ℕ → SdrrCsSet → Mangled
 mangleCore pins count type address set = mangleOf pins count type address (levels set)

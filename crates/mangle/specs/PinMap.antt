@@ -6,7 +6,7 @@ use lib.Dec.{leb, eqb}
 use lib.ListN.{getD, set}
 use Rattle.base.specs.Choice.{pick}
 use Rattle.types.specs.declared.SdrrRomType.{SdrrRomType}
-use Rattle.pins.specs.declared.SdrrPins.{SdrrPins}
+use Rattle.board.specs.declared.BoardPins.{BoardPins}
 use Rattle.demangle.specs.Bits.{none, isBit}
 use Rattle.base_zero.specs.BaseZero.{baseZero}
 use Rattle.rom_rules.specs.Rules.{rulesOf, controlBits, several}
@@ -36,7 +36,7 @@ unfoldable pub withX : List ℕ → (x1 x2 : ℕ) → List ℕ
 withX m x1 x2 = set (set m x1 14) x2 15
 
 -- the control pins in the order of controlBits
-abbrev pub controlPins : SdrrPins → List ℕ
+abbrev pub controlPins : BoardPins → List ℕ
 controlPins pins = pins .cs1 ∷ pins .cs2 ∷ pins .cs3 ∷ pins .oe ∷ pins .ce ∷ []
 
 -- a control pin that has an input bit, at 16 or above
@@ -75,9 +75,9 @@ mapBy m x1 x2 controls count type =
     }
 
 -- of pins that are counted from zero
-unfoldable pub mapOf : SdrrPins → ℕ → SdrrRomType → PinMap
+unfoldable pub mapOf : BoardPins → ℕ → SdrrRomType → PinMap
 mapOf pins count type = mapBy (addressMap (pins .addr)) (pins .x1) (pins .x2) (controlPins pins) count type
 
 -- of a pins record as it stands
-unfoldable pub pinMap : SdrrPins → ℕ → SdrrRomType → PinMap
+unfoldable pub pinMap : BoardPins → ℕ → SdrrRomType → PinMap
 pinMap pins count type = mapOf (baseZero pins) count type

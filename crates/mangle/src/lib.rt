@@ -2,11 +2,11 @@
 pub mod map; // the sixteen pins
 
 use base_zero::control_least;
+use board::BoardPins;
 use input_word::input_word;
 use input_word::levels;
 use least_pin::least_pin;
 use pin_words::address_pins;
-use pins::SdrrPins;
 use types::SdrrCsSet;
 use types::SdrrRomType;
 ghost use mathlib.Core.Path.{_≡_};
@@ -26,7 +26,7 @@ pub struct Mangled {
 
 // The mangled address, with the ROM count and the first type of the set that governs.
 pub fn mangle_core(
-    pins: SdrrPins,
+    pins: BoardPins,
     rom_count: u32,
     rom_type: SdrrRomType,
     address: u32,

@@ -2,11 +2,11 @@
 // address is placing its input word under this map.
 use base_zero::base_zero;
 use base_zero::control_least;
+use board::BoardPins;
 use least_pin::least_pin;
 use mangle::PinMap;
 use mangle::map::map_number;
 use pin_words::address_pins;
-use pins::SdrrPins;
 use rom_rules::control_bits;
 use types::SdrrRomType;
 ghost use mathlib.Core.Path.{_≡_};
@@ -93,7 +93,7 @@ fn whole_map(
 }
 
 // The number of a pins record's map, 72 to 76 or 0. Which pins have an address bit does not depend on the word.
-pub fn pin_map_number(pins: SdrrPins, rom_count: u32, rom_type: SdrrRomType) -> u8
+pub fn pin_map_number(pins: BoardPins, rom_count: u32, rom_type: SdrrRomType) -> u8
     ensures { λ r. ⌜ r ≡ pinMap pins «rom_count» «rom_type» .number ⌝ }
 {
     let m = least_pin(pins);
@@ -105,7 +105,7 @@ pub fn pin_map_number(pins: SdrrPins, rom_count: u32, rom_type: SdrrRomType) -> 
 }
 
 // The map of a pins record, with the ROM count and the first type of the set that governs.
-pub fn pin_map(pins: SdrrPins, rom_count: u32, rom_type: SdrrRomType) -> PinMap
+pub fn pin_map(pins: BoardPins, rom_count: u32, rom_type: SdrrRomType) -> PinMap
     ensures { λ r. ⌜ r ≡ pinMap pins «rom_count» «rom_type» ⌝ }
 {
     let number = pin_map_number(pins, rom_count, rom_type);

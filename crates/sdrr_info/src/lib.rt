@@ -33,7 +33,7 @@ pub fn board(settings: Settings, info: SdrrInfo) -> Board
 {
     let fields = info.fields;
     let line = fields.stm_line;
-    let pins = info.pins;
+    let pins = board::board_pins(info.pins);
     let sets = info.rom_sets;
     Board {
         flash_base: settings.flash_base,

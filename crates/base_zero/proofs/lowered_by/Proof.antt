@@ -2,13 +2,13 @@ use Prim.Native.Nat.{ℕ}
 use mathlib.Core.Path.{_≡_}
 use mathlib.Core.List.{List, map}
 use borrow.Author.Needs.{needs}
-use Rattle.pins.specs.declared.SdrrPins.{SdrrPins}
+use Rattle.board.specs.declared.BoardPins.{BoardPins}
 use Rattle.base_zero.specs.BaseZero.{lowered, withPins, loweredBy}
 use Rattle.base_zero.proofs.lowered_by.Statement.{statement}
 use Rattle.base_zero.proofs.lowered_by.Tie as tie
 
 -- over variables, which is cheap to check
-put-together : (m k : ℕ) (p : SdrrPins) (a : List ℕ) (c1 c2 c3 y1 y2 e o : ℕ) → a ≡ map (lowered m) (p .addr) → c1 ≡ lowered k (p .cs1) → c2 ≡ lowered k (p .cs2) → c3 ≡ lowered k (p .cs3)
+put-together : (m k : ℕ) (p : BoardPins) (a : List ℕ) (c1 c2 c3 y1 y2 e o : ℕ) → a ≡ map (lowered m) (p .addr) → c1 ≡ lowered k (p .cs1) → c2 ≡ lowered k (p .cs2) → c3 ≡ lowered k (p .cs3)
     → y1 ≡ lowered k (p .x1) → y2 ≡ lowered k (p .x2) → e ≡ lowered k (p .ce) → o ≡ lowered k (p .oe) → withPins p a c1 c2 c3 y1 y2 e o ≡ loweredBy m k p
 unfolding loweredBy
 put-together m k p a c1 c2 c3 y1 y2 e o h i j l q r s t = λ z. withPins p (h z) (i z) (j z) (l z) (q z) (r z) (s z) (t z)

@@ -6,7 +6,7 @@ use Rattle.byte_reads.proofs.read_rom_byte_demangled.Tie as tie
 
 returns : tie.Need-returns
 returns c =
-    let raw = c .before .before in
+    let raw = c .before .before .before in
     let entry = raw .before .before .before .before .args in
     byte-demangled (entry .board .«flash_base») (entry .board .«cs0_base») (lentBy (entry .board) (entry .set-rows .now) (entry .rom-rows .now)) (entry .count) (entry .image .now) (entry .set) (entry .address)
     (raw .read-rom-byte-raw .result) (raw .read-rom-byte-raw .ensures) (c .shown-byte .result) (c .shown-byte .ensures)

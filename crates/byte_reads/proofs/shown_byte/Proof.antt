@@ -9,23 +9,23 @@ use Rattle.byte_reads.proofs.shown_byte.Tie as tie
 returns : tie.Need-returns
 returns c =
     let entry = c .before .before .args in
-    sym (shown-refused (entry .pins) (entry .raw) (entry .count) (c .if1 .taken))
+    sym (shown-refused (entry .pins-number) (entry .«data») (entry .raw) (entry .count) (c .if1 .taken))
 
 returns-2 : tie.Need-returns-2
 returns-2 c =
     let entry = c .before .before .before .before .before .before .args in
-    let e = c .before .before .before .demangle-byte .ensures in
+    let e = c .before .before .before .demangle-by .ensures in
     let read : entry .raw .number ≡ 0 = omega arith in
-    rw (shown-79 (entry .pins) (entry .raw) (entry .count) read (rw e at (c .before .if2 .taken)), ← e) (c .no-byte .ensures)
+    rw (shown-79 (entry .pins-number) (entry .«data») (entry .raw) (entry .count) read (rw e at (c .before .if2 .taken)), ← e) (c .no-byte .ensures)
 
 returns-3 : tie.Need-returns-3
 returns-3 c =
     let entry = c .before .before .before .before .before .args in
-    let d = c .before .before .demangle-byte .result in
-    let e = c .before .before .demangle-byte .ensures in
+    let d = c .before .before .demangle-by .result in
+    let e = c .before .before .demangle-by .ensures in
     let read : entry .raw .number ≡ 0 = omega arith in
     let zero : d .number ≡ 0 = omega arith in
-    rw (shown-demangled (entry .pins) (entry .raw) (entry .count) read (ap (λ (b : Demangled). b .number) (sym e) ∙ zero), ← e)
+    rw (shown-demangled (entry .pins-number) (entry .«data») (entry .raw) (entry .count) read (ap (λ (b : Demangled). b .number) (sym e) ∙ zero), ← e)
 
 pub shown-byte-spec : {M : Type 1} → statement M
 shown-byte-spec = tie.close (tie.spec returns (λ c κs. search needs) (λ c κs. search needs) returns-2 returns-3)

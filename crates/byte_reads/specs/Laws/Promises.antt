@@ -16,7 +16,7 @@ use Rattle.set_data.specs.Laws.{place, read-beyond}
 use Rattle.byte_reads.specs.declared.ByteRead.{ByteRead}
 use Rattle.byte_reads.specs.Calls.{byteOf}
 use Rattle.byte_reads.specs.Code.{storedByte, shownFrom}
-use Rattle.byte_reads.specs.Laws.Steps.{by-address, byte-raw, byte-demangled, stored-at, shown-value}
+use Rattle.byte_reads.specs.Laws.Steps.{stored-raw, byte-demangled, stored-at, shown-value}
 
 module _ (flashBase cs0Base : ℕ) (l : Lent) (x : List ℕ) where
   -- ---- an accepted byte is the image's, at the mangled address; demangled, it is what the data pins make of that
@@ -30,12 +30,13 @@ module _ (flashBase cs0Base : ℕ) (l : Lent) (x : List ℕ) where
         (λ h.
         let base = baseAfter flashBase cs0Base (l .line) in
         let d = setData (l .served) (l .setWords) set in
-        let law = byte-raw flashBase cs0Base l count x set a h base refl d refl (physical l a) (sym (by-address l a)) (storedByte x base d (physical l a) count) refl in
+        let law = stored-raw flashBase cs0Base l count x set a h in
         ap (λ (b : ByteRead). b .byte) (sym law) ∙ stored-at x base d (physical l a) count (ap (λ (b : ByteRead). b .number) law ∙ e))
 
     pub accepted-demangled : byteOf (romRead flashBase cs0Base l count (byte set a true) x) .number ≡ 0
         → byteOf (romRead flashBase cs0Base l count (byte set a true) x) .byte ≡ demangleByte (l .pins) (byteOf (romRead flashBase cs0Base l count (byte set a false) x) .byte) .value
+    unfolding demangleByte
     accepted-demangled e =
         let raw = byteOf (romRead flashBase cs0Base l count (byte set a false) x) in
-        let law = byte-demangled flashBase cs0Base l count x set a raw refl (shownFrom (l .pins) raw count) refl in
-        ap (λ (b : ByteRead). b .byte) (sym law) ∙ shown-value (l .pins) raw count (ap (λ (b : ByteRead). b .number) law ∙ e)
+        let law = byte-demangled flashBase cs0Base l count x set a raw refl (shownFrom (l .pins .number) (l .pins .«data») raw count) refl in
+        ap (λ (b : ByteRead). b .byte) (sym law) ∙ shown-value (l .pins .number) (l .pins .«data») raw count (ap (λ (b : ByteRead). b .number) law ∙ e)

@@ -15,10 +15,9 @@ use Rattle.window.specs.Window.{baseAfter, beyondWindow}
 use Rattle.window.specs.Laws.{part-at}
 use Rattle.prog.specs.Prog.{run}
 use Rattle.prog.specs.Laws.Run.{run-done}
-use Rattle.pins.specs.declared.PinsItem.{PinsItem}
 use Rattle.mangle.specs.declared.Mangled.{Mangled}
 use Rattle.info.specs.declared.SdrrAddress.{SdrrAddress}
-use Rattle.info.specs.Lent.{Lent, demangleByte}
+use Rattle.info.specs.Lent.{Lent, demangledBy, demangleByte}
 use Rattle.info.specs.Reads.{Bytes, noBytes, countNumber, shownByte, byte, physical, byteP, storedP, finished, readReply, romRead}
 use Rattle.set_data.specs.declared.SetData.{SetData}
 use Rattle.set_data.specs.declared.Found.{Found}
@@ -26,7 +25,7 @@ use Rattle.set_data.specs.Code.{setData, foundOf}
 use Rattle.set_data.specs.Laws.{found-stands, bytesAt, data-found, read-beyond, read-within}
 use Rattle.byte_reads.specs.declared.ByteRead.{ByteRead}
 use Rattle.byte_reads.specs.Calls.{byteOf}
-use Rattle.byte_reads.specs.Code.{noByte, storedByte, physicalBy, shownFrom}
+use Rattle.byte_reads.specs.Code.{noByte, storedByte, byteAt, physicalBy, shownFrom}
 
 -- ---- a byte, raw
 
@@ -76,8 +75,8 @@ module _ (l : Lent) (count set : ℕ) (a : SdrrAddress) (b : Bytes) where
       (λ h. cases (ltb 4294967295 (count + 1)) (λ i. simp (h, i)) (λ i. simp (h, i)))
       (λ h. simp h)
 
-  finish-shown : byteOf (readReply count (byte set a true) (finished l count (byte set a true) b)) ≡ shownFrom (l .pins) (rawOf count b) count
-  unfolding finished countNumber shownByte shownFrom
+  finish-shown : byteOf (readReply count (byte set a true) (finished l count (byte set a true) b)) ≡ shownFrom (l .pins .number) (l .pins .«data») (rawOf count b) count
+  unfolding finished countNumber shownByte shownFrom demangleByte
   finish-shown =
       cases (eqb (b .number) 0)
       (λ h.
@@ -103,19 +102,32 @@ by-address l (SdrrAddress.Raw offset) = refl
 by-address l (SdrrAddress.Logical address levels) = refl
 
 module _ (flashBase cs0Base : ℕ) (l : Lent) (count : ℕ) (x : List ℕ) (set : ℕ) (a : SdrrAddress) where
-  -- a raw byte as the code has read it: the base in force, what it needs of the set, and the mangled address
-  pub byte-raw : beyondWindow flashBase cs0Base x ≡ false → (base : ℕ) → base ≡ baseAfter flashBase cs0Base (l .line) → (d : SetData) → d ≡ setData (l .served) (l .setWords) set
-      → (m : Mangled) → m ≡ physicalBy (l .pins) (l .served) (l .setWords) (l .romWords) a → (r : ByteRead) → r ≡ storedByte x base d m count
-      → r ≡ byteOf (romRead flashBase cs0Base l count (byte set a false) x)
+  pub stored-raw : beyondWindow flashBase cs0Base x ≡ false
+      → storedByte x (baseAfter flashBase cs0Base (l .line)) (setData (l .served) (l .setWords) set) (physical l a) count ≡ byteOf (romRead flashBase cs0Base l count (byte set a false) x)
   unfolding storedP
-  byte-raw within base in-force d of-set m mangled r e =
-      e
-      ∙ sym
-      (ap byteOf (read-within flashBase cs0Base l count x (byte set a false) within)
+  stored-raw h =
+      sym
+      (ap byteOf (read-within flashBase cs0Base l count x (byte set a false) h)
       ∙ finish-raw l count set a _
-      ∙ rw (in-force, of-set, mangled, by-address l a) (stored-run x (baseAfter flashBase cs0Base (l .line)) l set (physical l a) count))
+      ∙ stored-run x (baseAfter flashBase cs0Base (l .line)) l set (physical l a) count)
 
-  byte-shown : byteOf (romRead flashBase cs0Base l count (byte set a true) x) ≡ shownFrom (l .pins) (byteOf (romRead flashBase cs0Base l count (byte set a false) x)) count
+  at-physical : byteAt flashBase cs0Base (l .line) (l .served) (l .setWords) set (physical l a) count x ≡ byteOf (romRead flashBase cs0Base l count (byte set a false) x)
+  unfolding byteAt
+  at-physical =
+      cases (beyondWindow flashBase cs0Base x)
+      (λ h. rw h (sym (ap byteOf (read-beyond flashBase cs0Base l count x (byte set a false) h))))
+      (λ h. rw h (stored-raw h))
+
+  -- a raw byte as the code has read it, by the address as it has mangled it
+  pub byte-raw : (m : Mangled) → m ≡ physicalBy (l .pins) (l .served) (l .setWords) (l .romWords) a
+      → (r : ByteRead) → r ≡ byteAt flashBase cs0Base (l .line) (l .served) (l .setWords) set m count x
+      → r ≡ byteOf (romRead flashBase cs0Base l count (byte set a false) x)
+  byte-raw m mangled r e =
+      e
+      ∙ ap (λ (n : Mangled). byteAt flashBase cs0Base (l .line) (l .served) (l .setWords) set n count x) (mangled ∙ by-address l a)
+      ∙ at-physical
+
+  byte-shown : byteOf (romRead flashBase cs0Base l count (byte set a true) x) ≡ shownFrom (l .pins .number) (l .pins .«data») (byteOf (romRead flashBase cs0Base l count (byte set a false) x)) count
   unfolding storedP shownFrom
   byte-shown =
       cases (beyondWindow flashBase cs0Base x)
@@ -123,34 +135,34 @@ module _ (flashBase cs0Base : ℕ) (l : Lent) (count : ℕ) (x : List ℕ) (set 
       (λ h.
       ap byteOf (read-within flashBase cs0Base l count x (byte set a true) h)
       ∙ finish-shown l count set a _
-      ∙ ap (λ (r : ByteRead). shownFrom (l .pins) r count) (sym (ap byteOf (read-within flashBase cs0Base l count x (byte set a false) h) ∙ finish-raw l count set a _)))
+      ∙ ap (λ (r : ByteRead). shownFrom (l .pins .number) (l .pins .«data») r count) (sym (ap byteOf (read-within flashBase cs0Base l count x (byte set a false) h) ∙ finish-raw l count set a _)))
 
   -- a demangled byte as the code has it, from the raw one
-  pub byte-demangled : (raw : ByteRead) → raw ≡ byteOf (romRead flashBase cs0Base l count (byte set a false) x) → (r : ByteRead) → r ≡ shownFrom (l .pins) raw count
+  pub byte-demangled : (raw : ByteRead) → raw ≡ byteOf (romRead flashBase cs0Base l count (byte set a false) x) → (r : ByteRead) → r ≡ shownFrom (l .pins .number) (l .pins .«data») raw count
       → r ≡ byteOf (romRead flashBase cs0Base l count (byte set a true) x)
   byte-demangled raw v r e = e ∙ rw v (sym byte-shown)
 
 -- ---- a byte, demangled
 
-module _ (pins : PinsItem) (raw : ByteRead) (count : ℕ) where
-  pub shown-refused : (raw .number ≡ 0 → ⊥) → shownFrom pins raw count ≡ raw
+module _ (number : ℕ) (dataPins : List ℕ) (raw : ByteRead) (count : ℕ) where
+  pub shown-refused : (raw .number ≡ 0 → ⊥) → shownFrom number dataPins raw count ≡ raw
   unfolding shownFrom
   shown-refused h = rw (ne-eqb (raw .number) 0 h)
 
   module _ (read : raw .number ≡ 0) where
-    pub shown-79 : (demangleByte pins (raw .byte) .number ≡ 0 → ⊥) → shownFrom pins raw count ≡ noByte (demangleByte pins (raw .byte) .number) count
+    pub shown-79 : (demangledBy number dataPins (raw .byte) .number ≡ 0 → ⊥) → shownFrom number dataPins raw count ≡ noByte (demangledBy number dataPins (raw .byte) .number) count
     unfolding shownFrom
-    shown-79 h = rw (eq-eqb (raw .number) 0 read, ne-eqb (demangleByte pins (raw .byte) .number) 0 h)
+    shown-79 h = rw (eq-eqb (raw .number) 0 read, ne-eqb (demangledBy number dataPins (raw .byte) .number) 0 h)
 
-    pub shown-demangled : demangleByte pins (raw .byte) .number ≡ 0
-        → shownFrom pins raw count ≡ record { number = 0; byte = demangleByte pins (raw .byte) .value; count = raw .count }
+    pub shown-demangled : demangledBy number dataPins (raw .byte) .number ≡ 0
+        → shownFrom number dataPins raw count ≡ record { number = 0; byte = demangledBy number dataPins (raw .byte) .value; count = raw .count }
     unfolding shownFrom
-    shown-demangled h = rw (eq-eqb (raw .number) 0 read, eq-eqb (demangleByte pins (raw .byte) .number) 0 h)
+    shown-demangled h = rw (eq-eqb (raw .number) 0 read, eq-eqb (demangledBy number dataPins (raw .byte) .number) 0 h)
 
-  pub shown-value : shownFrom pins raw count .number ≡ 0 → shownFrom pins raw count .byte ≡ demangleByte pins (raw .byte) .value
+  pub shown-value : shownFrom number dataPins raw count .number ≡ 0 → shownFrom number dataPins raw count .byte ≡ demangledBy number dataPins (raw .byte) .value
   unfolding shownFrom
   shown-value e =
-      let v = demangleByte pins (raw .byte) in
+      let v = demangledBy number dataPins (raw .byte) in
       cases (eqb (raw .number) 0)
       (λ h. cases (eqb (v .number) 0) (λ i. rw (h, i)) (λ i. absurd (eqb-false (v .number) 0 i (rw (h, i) at e))))
       (λ h. absurd (eqb-false (raw .number) 0 h (rw h at e)))

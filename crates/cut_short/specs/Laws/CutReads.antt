@@ -13,6 +13,8 @@ use Rattle.window.specs.Window.{baseAfter}
 use Rattle.prog.specs.Prog.{run}
 use Rattle.prog.specs.Laws.Honest.{honest-kept}
 use Rattle.text.specs.declared.Text.{Text}
+use Rattle.pins.specs.declared.PinsItem.{PinsItem}
+use Rattle.board.specs.Board.{boardPins}
 use Rattle.walk.specs.Walk.{Rom, RomSet, romsOf}
 use Rattle.rows.specs.LentRows.{romWidth, typeWord}
 use Rattle.walk.specs.Rows.{setRows, romFront, romRows, overwritten}
@@ -47,6 +49,11 @@ module _ (rs ss : List Rom) (ts us : List Text) (e : map romFront rs ≡ map rom
 
 -- ---- boards that show the same but for names and ended items
 
+kept-pins : {i j : PinsItem} → (i .number ≡ 2) ⊎ (i ≡ j) → (boardPins i .number ≡ 2) ⊎ (boardPins i ≡ boardPins j)
+unfolding boardPins
+kept-pins (inl h) = inl h
+kept-pins (inr h) = inr (ap boardPins h)
+
 module _ (s : Settings) {r r′ : SdrrInfo} {ss ss′ : List RomSet} {names names′ : List Text} (k : Kept r ss names r′ ss′ names′) (sets roms : List ℕ) where
   pub kept-like :
       (r .«rom_sets» ≡ r′ .«rom_sets») × (setRows ss ≡ setRows ss′) × (map romFront (romsOf ss) ≡ map romFront (romsOf ss′))
@@ -56,7 +63,7 @@ module _ (s : Settings) {r r′ : SdrrInfo} {ss ss′ : List RomSet} {names name
   kept-like e =
       record {
         lines = ap (λ f. f .«stm_line») (k .header);
-        pins = k .pins;
+        pins = kept-pins (k .pins);
         served = ap (λ i. i .served) (e .0);
         set-words = ap (λ (w : List ℕ). overwritten w sets) (e .1);
         rom-rows = rows-length (romsOf ss) (romsOf ss′) names names′ (e .2) roms;

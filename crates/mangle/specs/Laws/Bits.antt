@@ -11,7 +11,7 @@ use lib.Pow.{pow-pos}
 use Rattle.base.specs.Choice.{pick}
 use Rattle.types.specs.declared.SdrrRomType.{SdrrRomType}
 use Rattle.types.specs.declared.SdrrCsSet.{SdrrCsSet}
-use Rattle.pins.specs.declared.SdrrPins.{SdrrPins}
+use Rattle.board.specs.declared.BoardPins.{BoardPins}
 use Rattle.demangle.specs.Bits.{none, isBit, bitAt, takenBit, gather}
 use Rattle.demangle.specs.Laws.{bit-gather, gather-lt, taken-high, pick-lt}
 use Rattle.base_zero.specs.BaseZero.{baseZero}
@@ -62,7 +62,7 @@ whole-length m x1 x2 controls count type =
     control-length controls (controlBits type) (pick (several count) (withX m x1 x2) m)
     ∙ pick-length (several count) (withX m x1 x2) m (x-length m x1 x2)
 
-pub map-length : (pins : SdrrPins) (count : ℕ) (type : SdrrRomType) → length (pinMap pins count type .map) ≡ 16
+pub map-length : (pins : BoardPins) (count : ℕ) (type : SdrrRomType) → length (pinMap pins count type .map) ≡ 16
 unfolding pinMap mapOf mapBy
 map-length pins count type =
     let p = baseZero pins in
@@ -71,7 +71,7 @@ map-length pins count type =
     let h = whole-length m (p .x1) (p .x2) (controlPins p) count type in
     pick-length (eqb (mapNumber m (p .x1) (p .x2) (controlPins p) count type) 0) w unmapped (h ∙ address-length (p .addr) 0 unmapped)
 
-pub mangled-lt : (pins : SdrrPins) (count : ℕ) (type : SdrrRomType) (address : ℕ) (set : SdrrCsSet)
+pub mangled-lt : (pins : BoardPins) (count : ℕ) (type : SdrrRomType) (address : ℕ) (set : SdrrCsSet)
     → mangleCore pins count type address set .value < 2 ^ 16
 unfolding mangleCore mangleOf mangleBy
 mangled-lt pins count type address set =
@@ -82,12 +82,12 @@ mangled-lt pins count type address set =
 
 -- Mangling is placing the input word under the map, which does not depend on address and levels: a caller may make the map once, as the crate
 -- pin_map does, and use it for many addresses.
-pub by-map : (pins : SdrrPins) (count : ℕ) (type : SdrrRomType) (address : ℕ) (set : SdrrCsSet)
+pub by-map : (pins : BoardPins) (count : ℕ) (type : SdrrRomType) (address : ℕ) (set : SdrrCsSet)
     → mangleCore pins count type address set ≡ mangleBy (pinMap pins count type) count type address (levels set)
 unfolding mangleCore mangleOf
 by-map pins count type address set = refl
 
 -- with no ROM it is 74, whatever the type
-pub no-rom : (pins : SdrrPins) (type : SdrrRomType) (address : ℕ) (set : SdrrCsSet) → mangleCore pins 0 type address set ≡ record { number = 74; value = 0 }
+pub no-rom : (pins : BoardPins) (type : SdrrRomType) (address : ℕ) (set : SdrrCsSet) → mangleCore pins 0 type address set ≡ record { number = 74; value = 0 }
 unfolding mangleCore mangleOf mangleBy mangleNumber pinMap mapOf mapBy mapNumber
 no-rom pins type address set = refl

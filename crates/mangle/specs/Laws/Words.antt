@@ -13,7 +13,7 @@ use borrow.Author.Tests.{ltb-true, ltb-false}
 use Rattle.base.specs.Choice.{pick}
 use Rattle.types.specs.declared.SdrrRomType.{SdrrRomType}
 use Rattle.types.specs.declared.SdrrCsSet.{SdrrCsSet}
-use Rattle.pins.specs.declared.SdrrPins.{SdrrPins}
+use Rattle.board.specs.declared.BoardPins.{BoardPins}
 use Rattle.demangle.specs.Bits.{none, isBit, bitAt, takenBit, gather}
 use Rattle.demangle.specs.Laws.{taken-lt, bit-gather}
 use Rattle.least_pin.specs.LeastPin.{leastPin}
@@ -158,7 +158,7 @@ unfolding gather takenBit
 placed-gather ps x = pins-gather ps 0 x unmapped refl
 
 -- the address pins lowered by the least pin, the other pins as base-zero has them
-pub word-core : (pins : SdrrPins) (count : ℕ) (type : SdrrRomType) (address : ℕ) (set : SdrrCsSet)
+pub word-core : (pins : BoardPins) (count : ℕ) (type : SdrrRomType) (address : ℕ) (set : SdrrCsSet)
     → mangleWord
     (placed (map (lowered (leastPin pins)) (pins .addr)) (inputWord type count (levels set) address))
     (baseZero pins .x1)
@@ -178,7 +178,7 @@ word-core pins count type address set =
     (word-mangles (addressMap ps) (p .x1) (p .x2) (controlPins p) count type address (levels set) (address-length ps 0 unmapped))
 
 -- the map's number, with the pins that address bits are on
-pub word-number : (pins : SdrrPins) (count : ℕ) (type : SdrrRomType) (word : ℕ)
+pub word-number : (pins : BoardPins) (count : ℕ) (type : SdrrRomType) (word : ℕ)
     → wordNumber
     (placed (map (lowered (leastPin pins)) (pins .addr)) word .mapped)
     (baseZero pins .x1)

@@ -12,7 +12,8 @@ use lib.ListN.{take}
 use borrow.Author.Tests.{ne-eqb}
 use Rattle.window.specs.Window.{baseAfter}
 use Rattle.types.specs.declared.McuLine.{McuLine}
-use Rattle.pins.specs.declared.PinsItem.{PinsItem}
+use Rattle.board.specs.declared.BoardPins.{BoardPins}
+use Rattle.board.specs.Board.{boardPins}
 use Rattle.info.specs.declared.SdrrAddress.{SdrrAddress}
 use Rattle.info.specs.Lent.{Lent, lentBy}
 use Rattle.info.specs.Reads.{RomRead, range, byte, shownByte, storedP, finished, readP, Reply, romRead, bufferLeft}
@@ -71,11 +72,11 @@ refused-byte demangled f c report sets roms set logical address levels count x b
 
 -- ---- a report handed back unaltered: the reads are those of the opening's report
 
-lent : McuLine → PinsItem → ℕ → List ℕ → List ℕ → Lent
+lent : McuLine → BoardPins → ℕ → List ℕ → List ℕ → Lent
 lent m p n sets roms = record { line = m; pins = p; served = n; setWords = sets; romWords = roms }
 
 -- behind the base, no read looks at the line
-same-reads : (base : ℕ) (m n : McuLine) (p : PinsItem) (served : ℕ) (sets roms : List ℕ) (count : ℕ) (r : RomRead)
+same-reads : (base : ℕ) (m n : McuLine) (p : BoardPins) (served : ℕ) (sets roms : List ℕ) (count : ℕ) (r : RomRead)
     → readP base (lent m p served sets roms) count r ≡ readP base (lent n p served sets roms) count r
 unfolding lent readP storedP finished shownByte
 same-reads base m n p served sets roms count (range set offset k) = refl
@@ -84,7 +85,7 @@ same-reads base m n p served sets roms count (byte set (SdrrAddress.Raw offset) 
 same-reads base m n p served sets roms count (byte set (SdrrAddress.Logical address levels) false) = refl
 same-reads base m n p served sets roms count (byte set (SdrrAddress.Logical address levels) true) = refl
 
-read-by : (f c : ℕ) (m n : McuLine) (p : PinsItem) (served : ℕ) (sets roms : List ℕ) (count : ℕ) (r : RomRead) (x : List ℕ) → baseAfter f c m ≡ baseAfter f c n
+read-by : (f c : ℕ) (m n : McuLine) (p : BoardPins) (served : ℕ) (sets roms : List ℕ) (count : ℕ) (r : RomRead) (x : List ℕ) → baseAfter f c m ≡ baseAfter f c n
     → romRead f c (lent m p served sets roms) count r x ≡ romRead f c (lent n p served sets roms) count r x
 unfolding lent romRead
 read-by f c m n p served sets roms count r x e = rw (e, same-reads (baseAfter f c n) m n p served sets roms count r) refl
@@ -96,8 +97,8 @@ handed-read s f c i sets roms count r x =
     let b = boardIn f c (reportOut i) in
     let h = handed-back f c i in
     read-by f c (b .line) (i .fields .«stm_line») (b .pins) (b .served) sets roms count r x (h .base)
-    ∙ ap (λ (p : PinsItem). romRead f c (lent (i .fields .«stm_line») p (b .served) sets roms) count r x) (h .pins)
-    ∙ ap (λ (n : ℕ). romRead f c (lent (i .fields .«stm_line») (i .pins) n sets roms) count r x) (h .served)
+    ∙ ap (λ (p : BoardPins). romRead f c (lent (i .fields .«stm_line») p (b .served) sets roms) count r x) (h .pins)
+    ∙ ap (λ (n : ℕ). romRead f c (lent (i .fields .«stm_line») (boardPins (i .pins)) n sets roms) count r x) (h .served)
 
 -- ---- demand 3: reads on what `onerom_open` handed out and left, of a refused opening too
 

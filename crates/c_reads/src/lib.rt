@@ -79,25 +79,15 @@ pub fn raw_byte_call(
     let line = c_handed::line_in(header.line);
     let rom_sets = report.rom_sets;
     let served = rom_sets.served;
+    let held = report.pins;
+    let m = if logical == 1 {
+        let cs_set = c_board::levels_from(*levels);
+        let pins = c_handed::pins_in(held);
+        info::mangle_address(pins, served, set_rows, rom_rows, address, cs_set)
+    } else {
+        offset(address)
+    };
     let before = *count;
-    if logical != 1 {
-        let m = offset(address);
-        let raw = byte_reads::byte_at(
-            image,
-            flash_base,
-            cs0_base,
-            line,
-            served,
-            set_rows,
-            set,
-            m,
-            before,
-        );
-        return give(raw, count, value);
-    }
-    let pins = c_handed::pins_in(report.pins);
-    let cs_set = c_board::levels_from(*levels);
-    let m = info::mangle_address(pins, served, set_rows, rom_rows, address, cs_set);
     let raw = byte_reads::byte_at(
         image,
         flash_base,
@@ -134,31 +124,15 @@ pub fn demangled_byte_call(
     let line = c_handed::line_in(header.line);
     let rom_sets = report.rom_sets;
     let served = rom_sets.served;
-    let before = *count;
     let held = report.pins;
-    let data = held.data;
-    if logical != 1 {
-        let m = offset(address);
-        let raw = byte_reads::byte_at(
-            image,
-            flash_base,
-            cs0_base,
-            line,
-            served,
-            set_rows,
-            set,
-            m,
-            before,
-        );
-        return give(
-            byte_reads::shown_byte(held.number, data, raw, before),
-            count,
-            value,
-        );
-    }
-    let pins = c_handed::pins_in(held);
-    let cs_set = c_board::levels_from(*levels);
-    let m = info::mangle_address(pins, served, set_rows, rom_rows, address, cs_set);
+    let m = if logical == 1 {
+        let cs_set = c_board::levels_from(*levels);
+        let pins = c_handed::pins_in(held);
+        info::mangle_address(pins, served, set_rows, rom_rows, address, cs_set)
+    } else {
+        offset(address)
+    };
+    let before = *count;
     let raw = byte_reads::byte_at(
         image,
         flash_base,
@@ -170,9 +144,7 @@ pub fn demangled_byte_call(
         m,
         before,
     );
-    give(
-        byte_reads::shown_byte(held.number, data, raw, before),
-        count,
-        value,
-    )
+    let data = held.data;
+    let shown = byte_reads::shown_byte(held.number, data, raw, before);
+    give(shown, count, value)
 }

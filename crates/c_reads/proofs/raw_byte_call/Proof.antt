@@ -1,6 +1,10 @@
+use mathlib.Core.Path.{_≡_, _∙_}
+use mathlib.Core.Logic.{⊎-elim}
 use mathlib.Core.Bool.{false}
 use borrow.Author.Needs.{needs}
+use Rattle.byte_reads.specs.Code.{physicalBy}
 use Rattle.c_handed.specs.Handed.{pinsIn}
+use Rattle.c_board.specs.Board.{addressFrom}
 use Rattle.c_reads.proofs.Calls.{raw-leads, logical-leads, raw-read, byte-given}
 use Rattle.c_reads.proofs.raw_byte_call.Statement.{statement}
 use Rattle.c_reads.proofs.raw_byte_call.Tie as tie
@@ -9,31 +13,18 @@ returns : tie.Need-returns
 returns c =
     let g = c .give .ensures in
     let at = c .before .before .before in
-    let m = at .before in
-    let taken = m .before in
-    let line = taken .before .before .before in
+    let m = at .before .before in
+    let line = m .before .before .before in
     let e = line .before .before .before .before .before .args in
+    let leads : m .if1 .m ≡ physicalBy (pinsIn (e .report .pins)) (e .report .«rom_sets» .served) (e .set-rows .now) (e .rom-rows .now) (addressFrom (e .logical) (e .address) (e .levels .now)) =
+    ⊎-elim
+    (λ w. logical-leads (pinsIn (e .report .pins)) (e .report .«rom_sets» .served) (e .set-rows .now) (e .rom-rows .now) (e .logical) (e .address) (e .levels .now) (w .0 .taken) (w .3 .result) (w .3 .ensures) (w .2 .result) (w .2 .ensures) (m .if1 .m) (w .5 ∙ w .4 .ensures))
+    (λ w. raw-leads (pinsIn (e .report .pins)) (e .report .«rom_sets» .served) (e .set-rows .now) (e .rom-rows .now) (e .logical) (e .address) (e .levels .now) (w .0 .left) (m .if1 .m) (w .2 ∙ w .1 .ensures))
+    (m .if1 .came) in
     let read =
-    raw-read (e .flash-base) (e .cs0-base) (e .report) (e .set-rows .now) (e .rom-rows .now) (e .set) (e .logical) (e .address) (e .levels .now) (e .count .now) (e .image .now) (line .line-in .result) (line .line-in .ensures) (m .offset .result)
-    (raw-leads (pinsIn (e .report .pins)) (e .report .«rom_sets» .served) (e .set-rows .now) (e .rom-rows .now) (e .logical) (e .address) (e .levels .now) (taken .if1 .taken) (m .offset .result) (m .offset .ensures))
+    raw-read (e .flash-base) (e .cs0-base) (e .report) (e .set-rows .now) (e .rom-rows .now) (e .set) (e .logical) (e .address) (e .levels .now) (e .count .now) (e .image .now) (line .line-in .result) (line .line-in .ensures) (m .if1 .m) leads
     (at .byte-at .result) (at .byte-at .ensures) in
-    byte-given false (e .flash-base) (e .cs0-base) (e .report) (e .set-rows .now) (e .rom-rows .now) (e .set) (e .logical) (e .address) (e .levels .now) (e .count .now) (e .image .now) (at .byte-at .result) read _ _ _ _ (g .0) (g .1 .0) (g .1 .1)
-
-returns-2 : tie.Need-returns-2
-returns-2 c =
-    let g = c .give2 .ensures in
-    let at = c .before .before .before in
-    let m = at .before in
-    let levels = m .before in
-    let pins = levels .before .before in
-    let taken = pins .before in
-    let line = taken .before .before .before in
-    let e = line .before .before .before .before .before .args in
-    let read =
-    raw-read (e .flash-base) (e .cs0-base) (e .report) (e .set-rows .now) (e .rom-rows .now) (e .set) (e .logical) (e .address) (e .levels .now) (e .count .now) (e .image .now) (line .line-in .result) (line .line-in .ensures) (m .mangle-address .result)
-    (logical-leads (pinsIn (e .report .pins)) (e .report .«rom_sets» .served) (e .set-rows .now) (e .rom-rows .now) (e .logical) (e .address) (e .levels .now) (taken .if1 .left) (pins .pins-in .result) (pins .pins-in .ensures) (levels .levels-from .result) (levels .levels-from .ensures) (m .mangle-address .result) (m .mangle-address .ensures))
-    (at .byte-at2 .result) (at .byte-at2 .ensures) in
-    byte-given false (e .flash-base) (e .cs0-base) (e .report) (e .set-rows .now) (e .rom-rows .now) (e .set) (e .logical) (e .address) (e .levels .now) (e .count .now) (e .image .now) (at .byte-at2 .result) read _ _ _ _ (g .0) (g .1 .0) (g .1 .1)
+    byte-given false (e .flash-base) (e .cs0-base) (e .report) (e .set-rows .now) (e .rom-rows .now) (e .set) (e .logical) (e .address) (e .levels .now) (e .count .now) (e .image .now) (at .byte-at .result) read (c .give .result) _ _ _ (g .0) (g .1 .0) (g .1 .1)
 
 pub raw-byte-call-spec : {M : Type 1} → statement M
 raw-byte-call-spec =
@@ -43,10 +34,7 @@ raw-byte-call-spec =
     (λ c κs. search needs)
     (λ c κs. search needs)
     (λ c κs. search needs)
-    returns
     (λ c κs. search needs)
     (λ c κs. search needs)
     (λ c κs. search needs)
-    (λ c κs. search needs)
-    (λ c κs. search needs)
-    returns-2)
+    returns)

@@ -17,6 +17,8 @@ const ROM_2364: u8 = 2;
 const ROM_2316: u8 = 0;
 const SET: usize = 65536;
 
+type RustParser<'a, 'b> = Parser<'a, Window<'b>>;
+
 /// The least nanoseconds of one operation on each side.
 struct Least {
     here: f64,
@@ -53,9 +55,38 @@ fn show(what: &str, least: &Least) {
     println!("{what:<44} {:>12.1} {:>12.1} {:>8.2}", least.here, least.rust, least.here / least.rust);
 }
 
+// The Rust's calls stand behind functions of their own that are never inlined, as ours stand behind C's: otherwise its figures move by a half with
+// what the compiler makes of the loop around them.
+
+#[inline(never)]
 fn rust_opens(board: &Board) -> SdrrInfo {
     let mut window = Window { image: &board.image, base: board.flash_base };
     block_on(Parser::with_base_flash_address(&mut window, board.flash_base, 0).parse_flash()).expect("it opens")
+}
+
+#[inline(never)]
+fn rust_mangles(info: &SdrrInfo, address: u32, lines: SdrrCsSet) -> u32 {
+    info.mangle_address(&SdrrLogicalAddress::new(address, lines)).expect("it has an offset")
+}
+
+#[inline(never)]
+fn rust_demangles(info: &SdrrInfo, byte: u8) -> u8 {
+    info.demangle_byte(byte).expect("it has a value")
+}
+
+#[inline(never)]
+fn rust_reads_raw(info: &mut SdrrInfo, parser: &mut RustParser<'_, '_>, at: SdrrAddress) -> u8 {
+    block_on(info.read_rom_byte_raw(parser, 0, at)).expect("it is there")
+}
+
+#[inline(never)]
+fn rust_reads_demangled(info: &mut SdrrInfo, parser: &mut RustParser<'_, '_>, at: SdrrAddress) -> u8 {
+    block_on(info.read_rom_byte_demangled(parser, 0, at)).expect("it is there")
+}
+
+#[inline(never)]
+fn rust_reads_data(info: &mut SdrrInfo, parser: &mut RustParser<'_, '_>, buffer: &mut [u8]) {
+    block_on(info.read_rom_set_data(parser, 0, 0, buffer)).expect("it is there");
 }
 
 struct Opened {
@@ -140,7 +171,7 @@ fn mangles_on(bench: &Bench, what: &str, board: Board, addresses: u32) {
         assert!(ffi::mangle(&pins, rows, address, &levels, &mut value) == 0);
         value
     };
-    let rust = |address: u32| o.info.mangle_address(&SdrrLogicalAddress::new(address, lines)).expect("it has an offset");
+    let rust = |address: u32| rust_mangles(&o.info, address, lines);
     assert!((0..addresses).all(|a| here(a) == rust(a)), "both mangle alike");
     let least = bench.turns(
         addresses as usize,
@@ -167,7 +198,7 @@ fn demangles(bench: &Bench) {
         assert!(ffi::demangle(&pins, byte, &mut value) == 0);
         value
     };
-    let rust = |byte: u8| o.info.demangle_byte(byte).expect("it has a value");
+    let rust = |byte: u8| rust_demangles(&o.info, byte);
     assert!((0..=255).all(|b| here(b) == rust(b)), "both demangle alike");
     let least = bench.turns(
         256 * TIMES,
@@ -185,22 +216,23 @@ fn demangles(bench: &Bench) {
     show("demangle", &least);
 }
 
-fn logical_reads(bench: &Bench) {
+/// One byte of a 64 KiB set, each address once.
+fn byte_reads(bench: &Bench, what: &str, logical: bool, demangled: bool) {
     let mut o = open(measured(1, 1, ROM_23512, SET));
-    let levels = [0; 5];
     let lines = SdrrCsSet::new(false, None, None, None, None);
     let lent = Lent { image: &o.board.image, flash_base: o.board.flash_base, report: &o.ours.report, sets: &o.sets, roms: &o.roms };
     let here = |address: u32, count: &mut u32| {
         let mut value = 0;
-        assert!(ffi::byte(lent, 0, Address::Logical(address, levels), true, count, &mut value) == 0);
+        let at = if logical { Address::Logical(address, [0; 5]) } else { Address::Raw(address) };
+        assert!(ffi::byte(lent, 0, at, demangled, count, &mut value) == 0);
         value
     };
     let mut window = Window { image: &o.board.image, base: o.board.flash_base };
     let mut parser = Parser::with_base_flash_address(&mut window, o.board.flash_base, 0);
     let info = &mut o.info;
     let mut rust = |address: u32| {
-        let at = SdrrAddress::from_logical(address, &lines);
-        block_on(info.read_rom_byte_demangled(&mut parser, 0, at)).expect("it is there")
+        let at = if logical { SdrrAddress::from_logical(address, &lines) } else { SdrrAddress::Raw(address) };
+        if demangled { rust_reads_demangled(info, &mut parser, at) } else { rust_reads_raw(info, &mut parser, at) }
     };
     let mut count = 0;
     assert!((0..SET as u32).all(|a| here(a, &mut count) == rust(a)), "both read alike");
@@ -219,7 +251,7 @@ fn logical_reads(bench: &Bench) {
             }
         },
     );
-    show("logical byte read, demangled, of 64 KiB", &least);
+    show(what, &least);
 }
 
 fn data(bench: &Bench) {
@@ -230,7 +262,7 @@ fn data(bench: &Bench) {
     let mut parser = Parser::with_base_flash_address(&mut window, o.board.flash_base, 0);
     let info = &mut o.info;
     let here = |buffer: &mut [u8]| assert!(ffi::data(lent, 0, 0, buffer, &mut 0) == 0);
-    let mut rust = |buffer: &mut [u8]| block_on(info.read_rom_set_data(&mut parser, 0, 0, buffer)).expect("it is there");
+    let mut rust = |buffer: &mut [u8]| rust_reads_data(info, &mut parser, buffer);
     here(&mut ours);
     rust(&mut theirs);
     assert!(ours == theirs, "both read alike");
@@ -271,6 +303,9 @@ fn main() {
     openings(&bench);
     mangles(&bench);
     demangles(&bench);
-    logical_reads(&bench);
+    byte_reads(&bench, "raw address, raw byte", false, false);
+    byte_reads(&bench, "raw address, demangled byte", false, true);
+    byte_reads(&bench, "logical address, raw byte", true, false);
+    byte_reads(&bench, "logical address, demangled byte", true, true);
     data(&bench);
 }

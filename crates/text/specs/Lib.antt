@@ -1,3 +1,4 @@
 pub mod Text
+pub mod Code
 pub mod Laws
 pub mod Examples

@@ -1,10 +1,9 @@
-// What a caller in another language hands over of a board: levels, pins, an address.
+// What a caller in another language hands over of a board: levels and pins.
 use board::BoardPins;
-use info::SdrrAddress;
 use types::Level;
 use types::SdrrCsSet;
 ghost use mathlib.Core.Path.{_≡_};
-ghost use Rattle.c_board.specs.Board.{levelOf, levelsFrom, pinsFrom, addressFrom};
+ghost use Rattle.c_board.specs.Board.{levelOf, levelsFrom, pinsFrom};
 
 fn level_of(n: u8) -> Level
     ensures { λ r. ⌜ r ≡ levelOf n ⌝ }
@@ -49,15 +48,4 @@ pub fn pins_from(
         ce: control[5],
         oe: control[6],
     }
-}
-
-// 1 is a logical address with its levels, every other a raw offset.
-pub fn address_from(logical: u8, address: u32, levels: [u8; 5]) -> SdrrAddress
-    ensures { λ r. ⌜ r ≡ addressFrom logical address levels ⌝ }
-{
-    if logical == 1 {
-        let set = levels_from(levels);
-        return SdrrAddress::Logical(address, set);
-    }
-    SdrrAddress::Raw(address)
 }

@@ -4,9 +4,9 @@
 use std::hint::black_box;
 use std::time::Instant;
 
-use host::ffi::{self, Address, COpening, Lent, Rows};
+use host::ffi::{self, COpening, Lent, Rows};
 use host::fixed::measured;
-use host::image::{Board, PINS_PTR};
+use host::image::{Board, CS0_BASE, PINS_PTR};
 use host::rng::Rng;
 use onerom_fw_parser::readers::{Window, block_on};
 use onerom_fw_parser::{Parser, SdrrAddress, SdrrCsSet, SdrrInfo, SdrrLogicalAddress};
@@ -216,41 +216,65 @@ fn demangles(bench: &Bench) {
     show("demangle", &least);
 }
 
-/// One byte of a 64 KiB set, each address once.
+unsafe extern "C" {
+    fn bytes_read(
+        image: *const u8,
+        image_len: usize,
+        flash_base: u32,
+        cs0_base: u32,
+        report: *const ffi::CReport,
+        set_rows: *const u32,
+        set_words: usize,
+        rom_rows: *const u32,
+        rom_words: usize,
+        logical: u8,
+        demangled: u8,
+        to: *mut u8,
+        n: u32,
+    ) -> u32;
+}
+
+/// The bytes of a 64 KiB set one by one, each address once: here by a loop in C.
 fn byte_reads(bench: &Bench, what: &str, logical: bool, demangled: bool) {
     let mut o = open(measured(1, 1, ROM_23512, SET));
     let lines = SdrrCsSet::new(false, None, None, None, None);
-    let lent = Lent { image: &o.board.image, flash_base: o.board.flash_base, report: &o.ours.report, sets: &o.sets, roms: &o.roms };
-    let here = |address: u32, count: &mut u32| {
-        let mut value = 0;
-        let at = if logical { Address::Logical(address, [0; 5]) } else { Address::Raw(address) };
-        assert!(ffi::byte(lent, 0, at, demangled, count, &mut value) == 0);
-        value
+    let here = |to: &mut [u8]| {
+        let (image, sets, roms) = (&o.board.image, &o.sets, &o.roms);
+        let n = to.len() as u32;
+        let count = unsafe {
+            bytes_read(
+                image.as_ptr(),
+                image.len(),
+                o.board.flash_base,
+                CS0_BASE,
+                &o.ours.report,
+                sets.as_ptr(),
+                sets.len(),
+                roms.as_ptr(),
+                roms.len(),
+                logical as u8,
+                demangled as u8,
+                to.as_mut_ptr(),
+                n,
+            )
+        };
+        assert!(count == n, "each read counts");
     };
     let mut window = Window { image: &o.board.image, base: o.board.flash_base };
     let mut parser = Parser::with_base_flash_address(&mut window, o.board.flash_base, 0);
     let info = &mut o.info;
-    let mut rust = |address: u32| {
-        let at = if logical { SdrrAddress::from_logical(address, &lines) } else { SdrrAddress::Raw(address) };
-        if demangled { rust_reads_demangled(info, &mut parser, at) } else { rust_reads_raw(info, &mut parser, at) }
+    let mut rust = |to: &mut [u8]| {
+        for (address, byte) in to.iter_mut().enumerate() {
+            let address = address as u32;
+            let at = if logical { SdrrAddress::from_logical(address, &lines) } else { SdrrAddress::Raw(address) };
+            *byte = if demangled { rust_reads_demangled(info, &mut parser, at) } else { rust_reads_raw(info, &mut parser, at) };
+        }
     };
-    let mut count = 0;
-    assert!((0..SET as u32).all(|a| here(a, &mut count) == rust(a)), "both read alike");
-    assert!(count == SET as u32, "each read counts");
-    let least = bench.turns(
-        SET,
-        || {
-            let mut count = 0;
-            for a in 0..SET as u32 {
-                black_box(here(black_box(a), &mut count));
-            }
-        },
-        || {
-            for a in 0..SET as u32 {
-                black_box(rust(black_box(a)));
-            }
-        },
-    );
+    let (mut ours, mut theirs) = (vec![0; SET], vec![1; SET]);
+    here(&mut ours);
+    rust(&mut theirs);
+    assert!(ours == theirs, "both read alike");
+    let least = bench.turns(SET, || here(black_box(&mut ours)), || rust(black_box(&mut theirs)));
     show(what, &least);
 }
 

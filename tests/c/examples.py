@@ -11,23 +11,7 @@ sys.path[:0] = [os.path.join(TOP, "samples"), os.path.join(TOP, "tests", "bench"
 
 import made  # noqa: E402
 import make  # noqa: E402
-
-# A ROM's name, and how it is shown.
-NAMES = [
-    ("two\nlines", r"two\x0alines"),
-    ("\x1b[31mred", r"\x1b[31mred"),
-    ("back\\slash", r"back\x5cslash"),
-    ("c1\x9b", r"c1\xc2\x9b"),
-    ("del\x7f", r"del\x7f"),
-    ("voile \u00e0 livarde", "voile \u00e0 livarde"),
-    ("", ""),
-    ("\u200emizzen", r"\u200emizzen"),
-    ("nib.\u202egnp", r"nib.\u202egnp"),
-    ("\ufeff\u061c", r"\ufeff\u061c"),
-    ("\u2028\u2064\u2069", r"\u2028\u2064\u2069"),
-    ("\u200a\u2010\u202f\u2065\u206a", "\u200a\u2010\u202f\u2065\u206a"),
-    ("\U0001f6a2", "\U0001f6a2"),
-]
+from odd_names import BYTES, NAMES  # noqa: E402
 
 
 def same(got, wanted, what):
@@ -66,7 +50,8 @@ def refusals(program, at):
     for name, shown, why in (
         (at, at, "Is a directory"),
         (at + "/none.img", at + "/none.img", "No such file or directory"),
-        ((at + "/a\u202e\n").encode() + b"\xff\xc3", at + r"/a\u202e\x0a\xff\xc3", "No such file or directory"),
+        *((os.path.join(at.encode(), name), at + "/" + shown, "No such file or directory") for name, shown in BYTES),
+        *((os.path.join(at, name), at + "/" + shown, "No such file or directory") for name, shown in NAMES),
         (put(at, "empty.img", b""), at + "/empty.img", "refused 2: not all of it lies within the image"),
         (put(at, "zeros.img", bytes(1024)), at + "/zeros.img", "refused 10: no info header (SDRR) at the info offset"),
     ):

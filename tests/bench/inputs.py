@@ -4,7 +4,7 @@ import shutil
 import subprocess
 
 from calls import PROGRAM, SAMPLE, call, expect, refused, same, without
-from tools import STORED, TOP, words_of_numbers
+from tools import STORED, TOP, put, words_of_numbers
 
 NOBODY = 65534
 
@@ -83,3 +83,28 @@ def elsewhere(at):
 def inputs(at):
     standard_input(at)
     elsewhere(at)
+
+
+def hints(at):
+    """Files that are no dump, and dumps with too much behind them: what to do is said."""
+    table = words_of_numbers()
+    with open(os.path.join(TOP, SAMPLE), "rb") as f:
+        dump = f.read()
+    block = b"UF2\n\x57\x51\x5d\x9e" + bytes(504)
+    for name, data, number, hint in (
+        ("board.uf2", block * 40, 117, "uf2conv"),
+        ("small.uf2", block, 117, "uf2conv"),
+        ("large.uf2", block * 5000, 117, "uf2conv"),
+        ("board.elf", b"\x7fELF\1\1\1" + bytes(3000), 118, "objcopy"),
+        ("long.img", dump + b"\xff" * (4194304 - len(dump)), 112, "head -c 2097152"),
+    ):
+        file = put(at, name, data)
+        expect(hint in table[number], "%d has no hint" % number)
+        for words in ([file], [file, "--machine"], [file, "raw", "0"], [file, "raw", "0", "--machine"]):
+            refused(call(at, *words), 1, number, table, words, "bench %r" % (words,))
+    # The hint is true.
+    put(at, "start.img", (dump + b"\xff" * 4194304)[:2097152])
+    same(call(at, "made/start.img", "raw", "4"), call(at, SAMPLE, "raw", "4"), "the first 2 MiB of a longer dump")
+    # A board is a board whatever its first bytes are.
+    for front in (b"UF2\n", b"\x7fELF"):
+        same(call(at, put(at, "front.img", front + dump[4:]), "raw", "4"), call(at, SAMPLE, "raw", "4"), "a board that starts with %r" % front)

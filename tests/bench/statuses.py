@@ -1,7 +1,7 @@
 """The exit status of ./bench in every form: 0 for an answer, 1 for a refusal, 2 for words that are not understood."""
-import time
+import resource
 
-from calls import PROGRAM, SAMPLE, call, expect, refused, same
+from calls import PROGRAM, SAMPLE, WRAPPER, call, expect, refused, same
 from tools import words_of_numbers
 
 LONG = "x" * 5000
@@ -115,13 +115,13 @@ def spelled(at):
 
 
 def many(at):
-    """20,000 arguments take no time: in the program, and with what the command does before it."""
+    """20,000 arguments take less than a second of processor time: in the program, and with what the command does before it."""
     table = words_of_numbers()
-    for program, limit in ((PROGRAM, 1), ("bench", 2)):
-        more = {"program": PROGRAM} if program == PROGRAM else {}
+    for program in (PROGRAM, WRAPPER):
         for words, number in ((["--machine"] * 20000 + [SAMPLE], 0), ([SAMPLE] * 20000, 103), (["--info-offset=512"] * 20000, 0)):
-            start = time.monotonic()
-            _, out, err = call(at, *words, **more)
-            took = time.monotonic() - start
-            expect(took < limit, "20,000 arguments of %s take %.1f s" % (words[0], took))
+            before = resource.getrusage(resource.RUSAGE_CHILDREN)
+            _, out, err = call(at, *words, program=program)
+            after = resource.getrusage(resource.RUSAGE_CHILDREN)
+            took = after.ru_utime + after.ru_stime - before.ru_utime - before.ru_stime
+            expect(took < 1, "20,000 arguments of %s take %.1f s of %s" % (words[0], took, program))
             expect((table[number] in err.decode()) if number else err == b"" and out != b"", "20,000 arguments of %s: %r" % (words[0], err))

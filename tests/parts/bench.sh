@@ -90,10 +90,6 @@ test_bench_80_columns() {
     bench_part columns
 }
 
-test_bench_never_runs_what_is_not_proved() {
-    bench_part builds
-}
-
 test_bench_readme_is_real() {
     bench_part readme
 }

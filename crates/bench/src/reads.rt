@@ -1,10 +1,10 @@
 // Bytes of a set: as a socket would see them, as they are stored, and one by itself.
-use super::args::Request;
 use super::form::form;
 use super::form::told;
 use super::lent;
-use super::levels;
 use super::refuse;
+use bench_args::Request;
+use bench_args::levels;
 use board::Board;
 use info::SdrrAddress;
 use libc::STDERR_FILENO;

@@ -1,9 +1,9 @@
 // Why there is no answer, in one line.
-use super::args::Request;
-use super::args::is_bytes;
 use super::file;
 use super::form::form;
 use super::say;
+use bench_args::Request;
+use bench_args::is_bytes;
 use libc::STDERR_FILENO;
 use libc::STDOUT_FILENO;
 

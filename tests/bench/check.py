@@ -23,6 +23,7 @@ numbers in docs/BENCH.md and from stored outputs, never from the program.
     python3 tests/bench/check.py unreadable files that may not or cannot be read
     python3 tests/bench/check.py odd        names that deceive, in the dump and on the command line
     python3 tests/bench/check.py hints      files that are no dump, or too long
+    python3 tests/bench/check.py alike      what names and bytes of the same sets show
     python3 tests/bench/check.py columns    80 columns for a person
     python3 tests/bench/check.py readme     README.md shows real output
     python3 tests/bench/check.py store      writes tests/data/bench anew, to be read before it is kept
@@ -31,6 +32,7 @@ import sys
 import tempfile
 
 import tools  # noqa: F401  (first: it says where the generator is)
+from alike import alike
 from columns import columns
 from command_line import words
 from facts import facts
@@ -48,7 +50,7 @@ from wrapper import wrapper
 
 
 def main():
-    commands = (statuses, required, spelled, many, full, leaving, slow, untouched, inputs, unreadable, odd, hints, columns)
+    commands = (statuses, required, spelled, many, full, leaving, slow, untouched, inputs, unreadable, odd, hints, alike, columns)
     parts = {f.__name__: f for f in (stored, facts, names, rare, words, wrapper, reads, numbers, settings, readme) + commands}
     with tempfile.TemporaryDirectory() as folder:
         at = folder_with_boards(folder)

@@ -90,6 +90,10 @@ test_bench_odd_names() {
     bench_part odd
 }
 
+test_bench_names_and_bytes_of_same_sets() {
+    bench_part alike
+}
+
 test_bench_80_columns() {
     bench_part columns
 }

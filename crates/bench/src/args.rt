@@ -33,6 +33,7 @@ pub(crate) struct Request {
     pub number: u8,
     pub about: usize,
     pub machine: bool,
+    pub status: bool,
     pub help: bool,
     pub waiting: u8,
     pub next: u8,
@@ -52,6 +53,7 @@ fn nothing() -> Request {
         number: 0,
         about: 0,
         machine: false,
+        status: false,
         help: false,
         waiting: 255,
         next: FILE_OR_COMMAND,
@@ -159,8 +161,11 @@ fn take_option(request: Request, at: usize, option: u8) -> Request {
     if option == 3 {
         r.machine = true;
     }
-    if 3 < option {
+    if base::both(3 < option, option < 6) {
         r.help = true;
+    }
+    if option == 6 {
+        r.status = true;
     }
     if r.number != 0 {
         return r;
@@ -214,7 +219,7 @@ fn take(request: Request, at: usize) -> Request {
     }
     let option = words::place(
         &space[..n],
-        b"--flash-base|--cs0-base|--info-offset|--machine|--help|-h",
+        b"--flash-base|--cs0-base|--info-offset|--machine|--help|-h|--status",
     );
     if option < 255 {
         return take_option(request, at, option);

@@ -1,22 +1,10 @@
 // The dump: a file, read whole.
-use super::say;
 ghost use Rattle.io.specs.Counts.{Counts};
 
 // 0 and how many bytes there are; or 108 to 111: why it can't be opened or read, 112: it is too large.
 pub(crate) struct Loaded {
     pub number: u8,
     pub length: usize,
-}
-
-// The name of the file: argument `at`, or the sample where that is 0.
-pub(crate) fn name(to: i32, at: usize) {
-    if at == 0 {
-        say::text(to, b"samples/rp2350.img");
-        return;
-    }
-    let mut space = io::buffer();
-    let n = os::arg(at, &mut space);
-    say::shown(to, &space[..n]);
 }
 
 fn open(at: usize) -> i32 {

@@ -1,10 +1,9 @@
 // The help, on one screen.
-use super::say;
-use libc::STDOUT_FILENO;
+use bench_out::Out;
 
-pub(crate) fn help() {
-    say::text(
-        STDOUT_FILENO,
+pub(crate) fn help(out: &mut Out) {
+    bench_out::text(
+        out,
         b"bench: says what the flash of a One ROM board holds\n\n  \
         bench [FILE]                             firmware, pins, sets, ROMs, same sets\n  \
         bench [FILE] read SET [LEVELS]           a set's bytes as its socket has them\n  \
@@ -22,6 +21,6 @@ pub(crate) fn help() {
         --info-offset N   where the info header starts in the dump (512)\n\n\
         read and byte go by set 0's ROM count and first type; where the set's own\n\
         differ, they write no byte. Sets are the same where size, ROM count, serving and\n\
-        types agree; names and bytes are not compared. Messages go to standard error.\n",
+        types agree; the report says if names and bytes do. Messages: standard error.\n",
     );
 }

@@ -1,10 +1,9 @@
 // The help, on one screen; and the version.
-use super::say;
-use libc::STDOUT_FILENO;
+use bench_out::Out;
 
-pub(crate) fn help() {
-    say::text(
-        STDOUT_FILENO,
+pub(crate) fn help(out: &mut Out) {
+    bench_out::text(
+        out,
         b"bench: says what the flash of a One ROM board holds\n\n  \
         bench [FILE]                           firmware, pins, sets, ROMs, same sets\n  \
         bench FILE read SET [LEVELS]           a set's bytes as its socket has them\n  \
@@ -23,12 +22,12 @@ pub(crate) fn help() {
         --info-offset N   where the info header starts in the dump (512)\n\n\
         read and byte go by set 0's ROM count and first type; where the set's own\n\
         differ, they write no byte. Sets are the same where size, ROM count, serving and\n\
-        types agree; names and bytes are not compared. Messages go to standard error.\n\
+        types agree; the report says if names and bytes do. Messages: standard error.\n\
         Exit status: 0 an answer; 1 none, or not whole; 2 words not understood.\n",
     );
 }
 
 // The version of include/onerom.h.
-pub(crate) fn version() {
-    say::text(STDOUT_FILENO, b"bench 1.0\n");
+pub(crate) fn version(out: &mut Out) {
+    bench_out::text(out, b"bench 1.0\n");
 }

@@ -99,6 +99,11 @@ def sees_changes(c):
     same(c.run("raw", "0"), (0, b"[raw][0]", one, 1), "the program changed")
     c.write("crates/low/src/lib.rt", "low again")
     same(c.run("raw", "0"), (0, b"[raw][0]", two, 1), "a crate below it changed")
+    # A script's first line on standard error is the program's, where it asks for bytes.
+    c.write("crates/low/src/lib.rt", "low once more")
+    same(c.run("x", "raw", "0", "--machine"), (0, b"[x][raw][0][--machine]", [], 1), "a change, for a script")
+    c.write("crates/low/src/lib.rt", "and again")
+    same(c.run("--", "--machine"), (0, b"[--][--machine]", two, 1), "a change, and a file called --machine")
     c.write("crates/low/src/lib.rt", "old, by its time")
     os.utime(os.path.join(c.top, "crates/low/src/lib.rt"), (0, 0))
     same(c.run("raw", "0")[3], 1, "a change with an old time")

@@ -1,8 +1,9 @@
 // The command line of the bench. Options may stand anywhere before --; the words are [FILE] or FILE COMMAND SET [ADDRESS] [LEVELS].
 pub mod levels; // LEVELS
-pub mod words; // words and numbers
+mod words; // words and numbers
 
 use sdrr_info::Settings;
+ghost use mathlib.Core.Path.{_≡_};
 
 // Commands.
 pub const READ: u8 = 0;
@@ -42,7 +43,7 @@ const END: u8 = 7;
 const NO_OPTION: u8 = 255;
 
 // What is asked for; or the number of a refusal, and the argument that it is about (0: none).
-// waiting: the option whose number or file comes next (255: none). is_ended: -- was seen.
+// status: the exit status is to be written. waiting: the option whose number or file comes next (255: none). is_ended: -- was seen.
 // file, sample, command_at: the arguments that name them (0: no FILE, so the sample; the sample that stands here; none).
 pub struct Request {
     pub number: u8,
@@ -325,7 +326,11 @@ pub fn parse() -> Request {
     whole(request)
 }
 
-pub fn settings(request: Request) -> Settings {
+pub fn settings(request: Request) -> Settings
+    ensures { λ r. ⌜ r .«flash_base» ≡ request .«flash_base» ⌝ }
+    ensures { λ r. ⌜ r .«cs0_base» ≡ request .«cs0_base» ⌝ }
+    ensures { λ r. ⌜ r .«info_offset» ≡ request .«info_offset» ⌝ }
+{
     Settings {
         flash_base: request.flash_base,
         cs0_base: request.cs0_base,

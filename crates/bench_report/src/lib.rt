@@ -84,7 +84,7 @@ fn flags(out: &mut Out, is_machine: bool, f: SdrrInfoFields) {
         out,
         is_machine,
         b"Flags              overclock %o, SWD %o, preload to RAM %o, bootloader %o,\n                   \
-        status LED %o, boot logging %o, MCO %o, access counting %o\n\
+        status LED %o, boot logging %o, MCO %o, access count %o\n\
         Boot config        %b %b %b %b\n",
         b"flag.overclock %d\nflag.swd %d\nflag.preload %d\nflag.bootloader %d\n\
         flag.led %d\nflag.boot_logging %d\nflag.mco %d\nflag.access_count %d\n\

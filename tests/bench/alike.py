@@ -35,6 +35,7 @@ NO_NAME = struct.pack("<I", make.NONE)
 
 def cases():
     """What the board is, its bytes, and for each set that is the same as an earlier one: that one, and what names and bytes show."""
+    whole = make.RP2350.pins.set_data(several(["a", "b", "c"])[0])
     return [
         ("the sample", changed(), {3: (0, EQUAL, EQUAL), 4: (1, DIFFER, DIFFER)}),
         ("a byte of set 3 changed", changed_set(3, 2047), {3: (0, EQUAL, DIFFER), 4: (1, DIFFER, DIFFER)}),
@@ -46,7 +47,7 @@ def cases():
         ("bytes past the dump's end", image_of(one_rom("jib", "jib"), (("set", 1), 0, struct.pack("<I", make.RP2350.base + 0x100000))), {1: (0, EQUAL, NOT_HELD)}),
         ("three, by the first", image_of(one_rom("jib", "jib", "genoa")), {1: (0, EQUAL, EQUAL), 2: (0, DIFFER, DIFFER)}),
         ("several ROMs", image_of(several(["a", "b", "c"], ["a", "b", "c"])), {1: (0, EQUAL, EQUAL)}),
-        ("the last of several names", image_of(several(["a", "b", "c"], ["a", "b", "d"])), {1: (0, DIFFER, DIFFER)}),
+        ("the last of several names", image_of(several(["a", "b", "c"], ["a", "b", "d"]), (1, 0, whole)), {1: (0, DIFFER, EQUAL)}),
         ("no ROMs and no bytes", image_of([make.RomSet([], 0, 1)] * 2), {1: (0, EQUAL, EQUAL)}),
         ("none", image_of(one_rom("jib") + several(["jib"])), {}),
     ]

@@ -58,7 +58,7 @@ def on_the_command_line(at):
         shutil.copy(os.path.join(TOP, SAMPLE), os.path.join(at.encode(), name))
         code, out, err = call(at, name)
         same((code, out.split(b"\n")[0].decode(), err), (0, "made/%s: a One ROM board, 13944 bytes" % shown, b""), "a file called %r" % name)
-        same(call(at, name, "raw", "9")[2], ("bench: made/%s, set 9: refused with 80: %s\n" % (shown, table[80])).encode(), "set 9 of %r" % name)
+        same(call(at, name, "raw", "9")[2], ("bench: made/%s, set 9: refused with 80:\n  %s\n" % (shown, table[80])).encode(), "set 9 of %r" % name)
     for word, shown in ((b"--\xe2\x80\xae", r"--\u202e"), (b"--\xff", r"--\xff")):
         same(call(at, word), (2, b"", ("bench: %s: %s\n" % (shown, table[101])).encode()), "the option %r" % word)
 

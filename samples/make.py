@@ -244,7 +244,7 @@ MULTI = Board(
 
 
 def damaged():
-    """rp2350.img with faults, and what the bench is to say of each: an item's key and its number."""
+    """rp2350.img with faults, and what the bench is to say of each: a key and its value."""
     image = RP2350.image()
     at = RP2350.at
     image.write(at["header"] + 24, struct.pack("<I", image.base - 1))  # the revision's pointer, below the base: 3
@@ -263,6 +263,8 @@ DAMAGE = {
     "set.1.rom.0.name.number": "21",
     "set.3.rom.0.name.number": "1",
     "set.4.data.number": "2",
+    "set.3.same_as.names": "differ",
+    "set.4.same_as.bytes": "not_held",
 }
 
 

@@ -42,10 +42,10 @@ def several_kinds():
 
 
 def fits(at, words):
-    """The words of the command line that are more than a number do not count where a line shows them."""
+    """A word of the command line does not count where a line shows it, unless it is a number."""
     for to, text in zip(("output", "error"), run(at, *words)):
         for line in text.decode().split("\n"):
-            shown = [word for word in words if len(word) > 8 and word in line]
+            shown = [word for word in words if not word.isdigit() and word in line]
             width = len(line) - max(map(len, shown), default=0)
             expect(width <= WIDTH, "bench %r, standard %s: %d columns\n%s" % (words, to, width, line))
 

@@ -2,6 +2,7 @@
 import fcntl
 import os
 import signal
+import socket
 import subprocess
 import threading
 import time
@@ -85,21 +86,34 @@ def leaving(at):
         not_written(code, err, words, table, "whose reader goes away")
 
 
-def slowly(at, words, program=WRAPPER):
-    """Exit status, output and standard error where standard output is a pipe that does not wait, full at first, and its reader is slow."""
-    from_bench, to = os.pipe()
-    fcntl.fcntl(to, fcntl.F_SETPIPE_SZ, PIPE_BYTES)
-    os.set_blocking(to, False)
-    front = os.write(to, bytes(PIPE_BYTES))
+def small_pipe():
+    """Both ends of a pipe that does not wait, and how many bytes already fill it."""
+    reader, writer = os.pipe()
+    fcntl.fcntl(writer, fcntl.F_SETPIPE_SZ, PIPE_BYTES)
+    os.set_blocking(writer, False)
+    return reader, writer, os.write(writer, bytes(PIPE_BYTES))
+
+
+def small_socket():
+    """The same of a socket, which can't be opened anew."""
+    reader, writer = socket.socketpair()
+    writer.setsockopt(socket.SOL_SOCKET, socket.SO_SNDBUF, PIPE_BYTES)
+    writer.setblocking(False)
+    return reader.detach(), writer.detach(), 0
+
+
+def slowly(at, words, ends):
+    """Exit status, output and standard error where standard output refuses writes at times, and its reader is slow."""
+    from_bench, to, front = ends()
     got = []
 
     def read():
         time.sleep(0.03)
-        while part := os.read(from_bench, 1000):
+        while part := os.read(from_bench, 4000):
             got.append(part)
             time.sleep(0.0005)
 
-    with subprocess.Popen([program, *words], cwd=at, stdin=subprocess.DEVNULL, stdout=to, stderr=subprocess.PIPE) as bench:
+    with subprocess.Popen([WRAPPER, *words], cwd=at, stdin=subprocess.DEVNULL, stdout=to, stderr=subprocess.PIPE) as bench:
         os.close(to)
         reader = threading.Thread(target=read)
         reader.start()
@@ -111,19 +125,21 @@ def slowly(at, words, program=WRAPPER):
 
 
 def slow(at):
-    """The report is whole; or it says that it is not, ends early, and has no hole."""
+    """The report is whole; or it says that it is not, ends early, and has no hole. A pipe the program can wait for, so there it is whole."""
     table = words_of_numbers()
     many = put(at, "many.img", make.crowded(255, 16).bytes)
     for words in ([many, "--machine"], [many], [SAMPLE, "--machine"], [SAMPLE, "raw", "0"]):
         whole = call(at, *words)[1]
-        for k in range(20):
-            code, out, err = slowly(at, words)
-            expect(whole.startswith(out), "bench %r, slow reader: a hole after byte %d" % (words, next((i for i, (a, b) in enumerate(zip(out, whole)) if a != b), -1)))
+        for ends in [small_pipe] * 20 + [small_socket] * 5:
+            code, out, err = slowly(at, words, ends)
+            hole = next((i for i, (a, b) in enumerate(zip(out, whole)) if a != b), -1)
+            expect(whole.startswith(out), "bench %r, slow reader: a hole after byte %d" % (words, hole))
             if out == whole:
                 same((code, err), (0, b""), "bench %r, slow reader, whole" % (words,))
             else:
                 not_written(code, err, words, table, "slow reader, not whole")
                 expect(not out.endswith(b"\nend\n"), "bench %r, slow reader: `end` though it is not whole" % (words,))
+                expect(ends == small_socket, "bench %r, slow reader: a pipe is not waited for" % (words,))
 
 
 def untouched(at):

@@ -6,7 +6,8 @@ numbers in docs/BENCH.md and from stored outputs, never from the program.
     python3 tests/bench/check.py facts      a script's facts of each sample are what make.py put into it
     python3 tests/bench/check.py names      each type, line, storage, port, flag and pin by its name
     python3 tests/bench/check.py rare       sets without ROMs or bytes, 255 sets, early firmware, the largest read, damaged boards
-    python3 tests/bench/check.py words      options and commands in odd orders
+    python3 tests/bench/check.py words      options and commands in odd orders, dumps on standard input
+    python3 tests/bench/check.py wrapper    the script ./bench: when it has the program proved, what it runs and passes on
     python3 tests/bench/check.py reads      read, raw and byte give the ROMs' text
     python3 tests/bench/check.py numbers    each number that can occur, in the words of docs/BENCH.md
     python3 tests/bench/check.py settings   boards at other bases and offsets
@@ -25,10 +26,11 @@ from rare import rare
 from reads import reads, settings
 from refusals import numbers
 from stored import readme, stored
+from wrapper import wrapper
 
 
 def main():
-    parts = {f.__name__: f for f in (stored, facts, names, rare, words, reads, numbers, settings, readme)}
+    parts = {f.__name__: f for f in (stored, facts, names, rare, words, wrapper, reads, numbers, settings, readme)}
     with tempfile.TemporaryDirectory() as folder:
         at = folder_with_boards(folder)
         if sys.argv[1:] == ["store"]:

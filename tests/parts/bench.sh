@@ -26,6 +26,10 @@ test_bench_command_line() {
     bench_part words
 }
 
+test_bench_wrapper() {
+    bench_part wrapper
+}
+
 test_bench_reads_are_the_roms_text() {
     bench_part reads
 }
@@ -55,6 +59,8 @@ test_bench_help_fits_a_screen() {
 # The first command of the README: from any folder, a file is looked for from where the caller stands.
 test_bench_command() {
     ./bench | cmp - crates/bench/stdout &&
-        (cd samples && ../bench rp2350.img) | tail -n +2 | cmp - <(tail -n +2 crates/bench/stdout) &&
-        (cd docs && ../bench raw 0) | cmp - <(target/bin/bench raw 0)
+        (cd docs && ../bench) | cmp - crates/bench/stdout &&
+        (cd samples && ../bench rp2350.img) | cmp - <(sed '1s/.*:/rp2350.img:/' crates/bench/stdout) &&
+        (cd docs && ../bench -- ../samples/rp2350.img raw 0) | cmp - <(target/bin/bench samples/rp2350.img raw 0) &&
+        (cd docs && ../bench --info-offset=512 - raw 0 <../samples/rp2350.img) | cmp - <(target/bin/bench samples/rp2350.img raw 0)
 }

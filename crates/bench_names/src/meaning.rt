@@ -67,13 +67,13 @@ fn of_reads(out: &mut Out, n: u32) {
     );
 }
 
-// 100 to 115; n counts from 100.
+// 100 to 118; n counts from 100.
 fn of_program(out: &mut Out, n: u32) {
     entry(
         out,
         b"an argument is too long|\
         no such option; bench help lists them|\
-        this option needs a number after it|\
+        this option needs a value after it|\
         no such command: it is read, raw, byte or help|\
         it needs a SET, and byte an ADDRESS too|\
         one argument too many|\
@@ -83,10 +83,13 @@ fn of_program(out: &mut Out, n: u32) {
         it is a directory|\
         it may not be read|\
         it cannot be read|\
-        larger than 2 MiB (2,097,152 bytes)|\
+        larger than 2 MiB; its start is enough: head -c 2097152|\
         set 0, by which reads go, differs in ROM count or first type|\
         the file is empty|\
-        the bytes could not all be written",
+        the bytes could not all be written|\
+        it needs a FILE in front, or - for standard input|\
+        a UF2 file, no dump: unpack it first, as with uf2conv.py|\
+        an ELF file, no dump: make one first, as with objcopy -O binary",
         n,
     );
 }

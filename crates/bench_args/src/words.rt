@@ -1,10 +1,18 @@
 // A word of the command line: which of several it is, and a number in one.
-use super::say::entry_end;
 ghost use Prim.Native.Nat.{_≤_};
+ghost use lib.ListN.{length};
 
-pub(crate) struct Number {
+pub struct Number {
     pub ok: bool,
     pub value: u32,
+}
+
+// Where the part that starts at an index ends: before the mark, or with the word.
+pub fn part_end(word: &[u8], from: usize, mark: u8) -> usize
+    requires { ⌜ from ≤ length (now word) ⌝ }
+    ensures { λ r. ⌜ (from ≤ r) × (r ≤ length (now (word .entry))) ⌝ }
+{
+    bytes::scan::find(word, from, word.len(), mark)
 }
 
 fn is_word(word: &[u8], m: &[u8]) -> bool {
@@ -12,11 +20,11 @@ fn is_word(word: &[u8], m: &[u8]) -> bool {
 }
 
 // Which entry of a table the word is: 0 for the first; 255 where it is none. Entries stand between bars.
-pub(crate) fn place(word: &[u8], table: &[u8]) -> u8 {
+pub fn place(word: &[u8], table: &[u8]) -> u8 {
     let mut at = 0;
     let mut k = 0;
     while k < 255 {
-        let end = entry_end(table, at);
+        let end = part_end(table, at, b'|');
         if is_word(word, &table[at..end]) {
             return k;
         }
@@ -84,10 +92,17 @@ fn digits(word: &[u8], base: u8) -> Number {
     }
 }
 
-// Decimal, or hexadecimal after 0x.
-pub(crate) fn to_number(word: &[u8]) -> Number {
+fn is_hexadecimal(word: &[u8]) -> bool {
+    base::either(
+        magic::starts_with(word, b"0x"),
+        magic::starts_with(word, b"0X"),
+    )
+}
+
+// Decimal, or hexadecimal after 0x or 0X.
+pub fn to_number(word: &[u8]) -> Number {
     if 2 < word.len() {
-        if magic::starts_with(word, b"0x") {
+        if is_hexadecimal(word) {
             return digits(&word[2..], 16);
         }
     }

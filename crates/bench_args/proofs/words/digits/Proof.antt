@@ -1,8 +1,8 @@
 use Prim.Native.Nat.{_≤_, _-_}
 use lib.ListN.{length}
 use borrow.Author.Needs.{needs}
-use Rattle.bench.proofs.words.digits.Statement.{statement}
-use Rattle.bench.proofs.words.digits.Tie as tie
+use Rattle.bench_args.proofs.words.digits.Statement.{statement}
+use Rattle.bench_args.proofs.words.digits.Tie as tie
 
 abbrev Inv-loop : tie.InvT-loop
 Inv-loop word base value₀ i₀ value i = value ≤ 4294967295

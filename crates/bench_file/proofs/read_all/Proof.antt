@@ -1,8 +1,8 @@
 use mathlib.Core.Path.{sym}
 use lib.Seq.{length-take-le}
 use borrow.Author.Needs.{needs}
-use Rattle.bench.proofs.file.read_all.Statement.{statement}
-use Rattle.bench.proofs.file.read_all.Tie as tie
+use Rattle.bench_file.proofs.read_all.Statement.{statement}
+use Rattle.bench_file.proofs.read_all.Tie as tie
 
 returns-2 : tie.Need-returns-2
 returns-2 c = (search needs, sym (length-take-le _ _ (search needs)))

@@ -1,7 +1,7 @@
 use Prim.Native.Nat.{_≤_, _-_}
 use borrow.Author.Needs.{needs}
-use Rattle.bench.proofs.args.parse.Statement.{statement}
-use Rattle.bench.proofs.args.parse.Tie as tie
+use Rattle.bench_args.proofs.parse.Statement.{statement}
+use Rattle.bench_args.proofs.parse.Tie as tie
 
 abbrev Inv-loop : tie.InvT-loop
 Inv-loop count request₀ i₀ request i = (1 ≤ i)

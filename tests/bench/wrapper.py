@@ -31,6 +31,10 @@ printf '%s' "${failed-${FAKE_STATUS-0}}" >&3
 """
 
 
+# All that the two scripts and the tests call: the machine's own rt must not be among it.
+TOOLS = "awk bash cat cksum cp date dirname find flock grep head mkdir mv readlink rm setpriv sh sha256sum sleep sort wc xargs".split()
+
+
 class Checkout:
     """A folder with a blank in its name; beside it the stand-in for rt."""
 
@@ -42,6 +46,10 @@ class Checkout:
         shutil.copy(os.path.join(TOP, "bench"), self.top)
         self.program = self.script(os.path.join(at, "program"), PROGRAM)
         os.mkdir(self.kit)
+        self.tools = os.path.join(at, "tools")
+        os.mkdir(self.tools)
+        for name in filter(shutil.which, TOOLS):
+            os.symlink(shutil.which(name), os.path.join(self.tools, name))
         self.script(os.path.join(self.kit, "rt"), RT)
         self.runs = os.path.join(at, "runs")
 
@@ -58,7 +66,7 @@ class Checkout:
             f.write(text)
 
     def path(self, has_kit=True):
-        return (self.kit + ":" if has_kit else "") + "/usr/bin:/bin"
+        return (self.kit + ":" if has_kit else "") + self.tools
 
     def start(self, words, has_kit=True, shell='"$0" "$@"', **more):
         surroundings = dict(os.environ, PATH=self.path(has_kit), RUNS=self.runs, PROGRAM=self.program, **more)

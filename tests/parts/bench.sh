@@ -42,6 +42,62 @@ test_bench_settings() {
     bench_part settings
 }
 
+test_bench_exit_status() {
+    bench_part statuses
+}
+
+test_bench_needs_a_file() {
+    bench_part required
+}
+
+test_bench_numbers_and_options() {
+    bench_part spelled
+}
+
+test_bench_many_arguments() {
+    bench_part many
+}
+
+test_bench_full_disk_or_closed_output() {
+    bench_part full
+}
+
+test_bench_reader_goes_away() {
+    bench_part leaving
+}
+
+test_bench_slow_reader() {
+    bench_part slow
+}
+
+test_bench_bytes_untouched() {
+    bench_part untouched
+}
+
+test_bench_standard_input_and_folders() {
+    bench_part inputs
+}
+
+test_bench_unreadable_files() {
+    bench_part unreadable
+}
+
+test_bench_hints() {
+    bench_part hints
+}
+
+test_bench_odd_names() {
+    bench_part odd
+}
+
+test_bench_names_and_bytes_of_same_sets() {
+    bench_part alike
+}
+
+test_bench_80_columns() {
+    bench_part columns
+}
+
 test_bench_readme_is_real() {
     bench_part readme
 }

@@ -1,10 +1,12 @@
-// The bench: what the flash of a One ROM board holds, for a person or a script; and the bytes of its sets.
+// The bench: what the flash of a One ROM board holds, for a person or a script; and the bytes of its sets. Each function that answers says the
+// status that the program ends with.
 mod help;
 
 use bench_args::Request;
-use bench_args::levels;
+use bench_form::told;
 use bench_out::Out;
 use bench_refuse::Asked;
+use board::Board;
 use sdrr_info::SdrrInfo;
 ghost use mathlib.Core.Path.{_≡_};
 ghost use lib.ListN.{length};
@@ -24,59 +26,64 @@ fn asked(request: Request) -> Asked {
     }
 }
 
-// The sample is no board of the caller's: the first line says so.
-fn heading(out: &mut Out, request: Request, length: usize) {
-    let n = (length % 4294967296) as u32;
-    if !request.machine {
-        bench_out::file_name(out, request.file);
+// The first line. The sample is no board of the caller's: it says so.
+fn heading(out: &mut Out, file: usize, length: usize) {
+    if !bench_out::is_script(out) {
+        bench_out::file_name(out, file);
     }
-    if request.file == 0 {
-        bench_form::told(
-            out,
-            request.machine,
-            b", the sample board",
-            b"ok\ndump.sample 1\n",
-            &[],
-        );
+    if file == 0 {
+        told(out, b", the sample board|ok\ndump.sample 1\n", &[]);
     } else {
-        bench_form::told(out, request.machine, b"", b"ok\n", &[]);
+        told(out, b"|ok\n", &[]);
     }
-    bench_form::told(
-        out,
-        request.machine,
-        b": a One ROM board, %d bytes\n",
-        b"dump.bytes %d\n",
-        &[n],
-    );
+    let n = (length % 4294967296) as u32;
+    told(out, b": a One ROM board, %d bytes\n|dump.bytes %d\n", &[n]);
 }
 
-fn whole_report(
-    request: Request,
+// The sets; and the hint where something does not lie within the dump.
+fn sets(
+    out: &mut Out,
     image: &[u8],
+    base: u32,
+    info: SdrrInfo,
+    set_rows: &[u32],
+    rom_rows: &[u32],
+) {
+    let item = info.rom_sets;
+    bench_sets::count(out, item, bench_report::lacks_metadata(info));
+    let is_cut = bench_sets::sets(out, image, base, item.served, set_rows, rom_rows);
+    if base::either(is_cut, bench_report::is_cut(info)) {
+        bench_report::cut_note(out);
+    }
+}
+
+fn report(
+    how: Asked,
+    image: &[u8],
+    base: u32,
     info: SdrrInfo,
     set_rows: &[u32],
     rom_rows: &[u32],
 ) -> u8 {
-    let mut out = bench_out::to(1);
-    let settings = bench_args::settings(request);
-    let board = sdrr_info::board(settings, info);
-    let item = info.rom_sets;
-    heading(&mut out, request, image.len());
-    bench_report::records(&mut out, request.machine, image, info);
-    let m = info.metadata;
-    let is_lost = bench_report::lacks_metadata(m);
-    let is_cut = bench_sets::sets(
-        &mut out,
-        request.machine,
-        image,
-        board,
-        item,
-        is_lost,
-        set_rows,
-        rom_rows,
-    );
-    bench_report::end_note(&mut out, request.machine, info, is_cut);
-    bench_refuse::end(asked(request), &mut out)
+    let mut out = bench_out::to(1, how.machine);
+    heading(&mut out, how.file, image.len());
+    bench_report::records(&mut out, image, info);
+    sets(&mut out, image, base, info, set_rows, rom_rows);
+    bench_refuse::end(how, &mut out)
+}
+
+fn bytes(request: Request, image: &[u8], board: Board, set_rows: &[u32], rom_rows: &[u32]) -> u8 {
+    let how = asked(request);
+    let set = request.set;
+    if request.command == bench_args::RAW {
+        return bench_reads::raw(how, image, board, set_rows, set);
+    }
+    let at = request.address;
+    let cs_set = bench_args::levels::cs_set(request.levels);
+    if request.command == bench_args::READ {
+        return bench_reads::read(how, image, board, set_rows, rom_rows, set, cs_set);
+    }
+    bench_reads::byte(how, image, board, set_rows, rom_rows, set, at, cs_set)
 }
 
 fn answer(
@@ -88,39 +95,32 @@ fn answer(
 ) -> u8 {
     let settings = bench_args::settings(request);
     let board = sdrr_info::board(settings, info);
-    let command = request.command;
-    let how = asked(request);
-    let set = request.set;
-    let cs_set = levels::cs_set(request.levels);
-    if command == bench_args::READ {
-        return bench_reads::read(how, image, board, set_rows, rom_rows, set, cs_set);
+    if request.command == bench_args::REPORT {
+        let base = bench_rows::base_of(board);
+        return report(asked(request), image, base, info, set_rows, rom_rows);
     }
-    if command == bench_args::RAW {
-        return bench_reads::raw(how, image, board, set_rows, set);
-    }
-    if command == bench_args::BYTE {
-        let at = request.address;
-        return bench_reads::byte(how, image, board, set_rows, rom_rows, set, at, cs_set);
-    }
-    whole_report(request, image, info, set_rows, rom_rows)
+    bytes(request, image, board, set_rows, rom_rows)
 }
 
-// An empty file is refused by the library with 2; for a person there are clearer words. Otherwise 2 is about the header.
-// A file that is no dump but holds one has words of its own.
-fn refused_opening(request: Request, number: u8, image: &[u8]) -> u8 {
-    let is_plain = base::both(image.len() == 0, !request.machine);
-    let form = bench_file::form_number(image);
-    let n = if is_plain {
-        114
-    } else if form != 0 {
-        form
-    } else {
-        number
-    };
-    if n == 2 {
-        return bench_refuse::part(asked(request), n, b", info header", &[]);
+// An empty file is refused by the library with 2; for a person there are clearer words. A file that is no dump but holds one has words of its own.
+fn opening_number(machine: bool, number: u8, image: &[u8]) -> u8 {
+    if image.len() == 0 {
+        return if machine { number } else { 114 };
     }
-    bench_refuse::part(asked(request), n, b"", &[])
+    let form = bench_file::form_number(image);
+    if form != 0 {
+        return form;
+    }
+    number
+}
+
+// Here 2 is about the header.
+fn refused_opening(how: Asked, number: u8, image: &[u8]) -> u8 {
+    let n = opening_number(how.machine, number, image);
+    if n == 2 {
+        return bench_refuse::part(how, n, b", info header", &[]);
+    }
+    bench_refuse::part(how, n, b"", &[])
 }
 
 fn open(request: Request, image: &[u8]) -> u8 {
@@ -129,7 +129,7 @@ fn open(request: Request, image: &[u8]) -> u8 {
     let settings = bench_args::settings(request);
     let opening = fw_parser::parse_flash(image, settings, &mut set_rows, &mut rom_rows);
     if opening.number != 0 {
-        return refused_opening(request, opening.number, image);
+        return refused_opening(asked(request), opening.number, image);
     }
     let info = opening.info;
     answer(request, image, info, &set_rows, &rom_rows)
@@ -145,39 +145,37 @@ fn run(request: Request) -> u8 {
     open(request, &image[..n])
 }
 
-// Help and version are plain text in every form.
-fn help_page() -> u8 {
-    let mut out = bench_out::to(1);
-    help::help(&mut out);
-    bench_refuse::page_end(&mut out)
-}
-
-fn version_line() -> u8 {
-    let mut out = bench_out::to(1);
-    help::version(&mut out);
+// Help and the version are plain text in every form.
+fn page(is_version: bool) -> u8 {
+    let mut out = bench_out::to(1, false);
+    if is_version {
+        help::version(&mut out);
+    } else {
+        help::help(&mut out);
+    }
     bench_refuse::page_end(&mut out)
 }
 
 fn done(request: Request) -> u8 {
     if request.help {
-        return help_page();
+        return page(false);
     }
     if request.version {
-        return version_line();
+        return page(true);
     }
     if request.number != 0 {
         return bench_refuse::arguments(asked(request), request.number, request.about);
     }
     if request.command == bench_args::HELP {
-        return help_page();
+        return page(false);
     }
     run(request)
 }
 
 // The status is one digit on descriptor 3, the last that is written.
 fn tell(status: u8) {
-    let mut out = bench_out::to(3);
-    bench_form::form(&mut out, b"%d", &[status as u32]);
+    let mut out = bench_out::to(3, true);
+    bench_out::number(&mut out, status as u32);
     bench_out::flush(&mut out);
 }
 

@@ -5,6 +5,8 @@
 //   %o on or off          %f the same as 1 or 0     %w what a number means    %m what a name's number means
 //   %a a chip-select state in one word              %e, %h what a comparison shows, for a person and for a script
 use bench_out::Out;
+ghost use Prim.Native.Nat.{_≤_, _<_};
+ghost use lib.ListN.{length};
 
 // A number past the end of the list is 0.
 fn number_at(numbers: &[u32], k: usize) -> u32 {
@@ -28,29 +30,48 @@ fn put(out: &mut Out, letter: u8, n: u32) {
     }
 }
 
+// A character of a form, or a mark and its letter: how many bytes that is.
+fn piece(out: &mut Out, form: &[u8], at: usize, n: u32) -> usize
+    requires { ⌜ at < length (now form) ⌝ }
+    ensures { λ r. ⌜ (1 ≤ r) × (r ≤ 2) ⌝ }
+{
+    let b = form[at];
+    if b != b'%' {
+        bench_out::byte(out, b);
+        return 1;
+    }
+    put(out, le::u8_at(form, at + 1), n);
+    2
+}
+
 pub fn form(out: &mut Out, form: &[u8], numbers: &[u32]) {
     let mut at = 0;
     let mut k = 0;
     while at < form.len() {
-        let end = bytes::scan::find(form, at, form.len(), b'%');
-        bench_out::text(out, &form[at..end]);
-        at = end;
-        if at < form.len() {
-            put(out, le::u8_at(form, at + 1), number_at(numbers, k));
-            k += 1;
-            at += 1;
-            if at < form.len() {
-                at += 1;
-            }
-        }
+        let n = piece(out, form, at, number_at(numbers, k));
+        k += n - 1;
+        at += n;
     }
 }
 
-// The form for a person or the one for a script.
-pub fn told(out: &mut Out, is_machine: bool, person: &[u8], script: &[u8], numbers: &[u32]) {
-    if is_machine {
-        form(out, script, numbers);
+// Where the form for a script starts: behind the bar; at the end where there is none.
+fn script_start(forms: &[u8], bar: usize) -> usize
+    requires { ⌜ bar ≤ length (now forms) ⌝ }
+    ensures { λ r. ⌜ r ≤ length (now (forms .entry)) ⌝ }
+{
+    if bar < forms.len() {
+        return bar + 1;
+    }
+    bar
+}
+
+// The form for a person or, behind a bar, the one for a script.
+pub fn told(out: &mut Out, forms: &[u8], numbers: &[u32]) {
+    let bar = bytes::scan::find(forms, 0, forms.len(), b'|');
+    if bench_out::is_script(out) {
+        let from = script_start(forms, bar);
+        form(out, &forms[from..], numbers);
     } else {
-        form(out, person, numbers);
+        form(out, &forms[0..bar], numbers);
     }
 }

@@ -61,6 +61,12 @@ pub fn named(out: &mut Out, letter: u8, n: u32) {
         b'p' => entry(out, b"none|A|B|C|D|0", n),
         b'c' => entry(out, b"active low|active high|not used", n),
         b'a' => entry(out, b"active_low|active_high|not_used", n),
+        _ => judged(out, letter, n),
+    }
+}
+
+fn judged(out: &mut Out, letter: u8, n: u32) {
+    match letter {
         b'o' => entry(out, b"off|on|not given", n),
         b'f' => entry(out, b"0|1|not_given", n),
         b'e' => entry(out, b"equal|differ|not all in the dump", n),

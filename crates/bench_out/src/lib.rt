@@ -8,19 +8,24 @@ pub use escape::file_name;
 pub use escape::shown;
 ghost use Rattle.io.specs.Counts.{Counts};
 
-// The descriptor, whether a write failed (1), the place of the next byte in two bytes; then room for 16,384 bytes.
-pub type Out = [u8; 16388];
+// The descriptor, whether a write failed (1), the place of the next byte in two bytes, whether a script reads it (1); then room for 16,384 bytes.
+pub type Out = [u8; 16389];
 
-const FIRST: usize = 4;
+const FIRST: usize = 5;
 
-const END: usize = 16388;
+const END: usize = 16389;
 
-// An output on a descriptor, with nothing in it.
-pub fn to(descriptor: u8) -> Out {
-    let mut out = [0; 16388];
+// An output on a descriptor, with nothing in it, for a person or a script.
+pub fn to(descriptor: u8, is_script: bool) -> Out {
+    let mut out = [0; 16389];
     out[0] = descriptor;
-    out[2] = 4;
+    out[2] = 5;
+    out[4] = is_script as u8;
     out
+}
+
+pub fn is_script(out: &Out) -> bool {
+    out[4] == 1
 }
 
 fn joined(low: u8, high: u8) -> usize {
@@ -74,7 +79,7 @@ fn gather(out: &mut Out, b: u8) {
     }
 }
 
-fn byte(out: &mut Out, b: u8) {
+pub fn byte(out: &mut Out, b: u8) {
     if END <= place(out) {
         flush(out);
     }

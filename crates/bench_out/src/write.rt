@@ -69,13 +69,13 @@ pub(crate) fn whole(to: u8, bytes: &[u8]) -> bool {
     patiently(to, &bytes[n..])
 }
 
-// The bytes of a room from 4 up to an end.
+// The bytes of a room from 5 up to an end.
 pub(crate) fn gathered(to: u8, room: &[u8], end: usize) -> bool {
-    if end < 4 {
+    if end < 5 {
         return false;
     }
     if room.len() < end {
         return false;
     }
-    whole(to, &room[4..end])
+    whole(to, &room[5..end])
 }

@@ -93,7 +93,7 @@ fn counted(asked: Asked, status: u8, length: u32) -> u8 {
     if !base::both(asked.machine, status == 0) {
         return status;
     }
-    let mut out = bench_out::to(2);
+    let mut out = bench_out::to(2, true);
     form(&mut out, b"ok\nbytes %d\n", &[length]);
     bench_out::flush(&mut out);
     if bench_out::is_whole(&out) {
@@ -127,7 +127,7 @@ pub fn read(
     if f.number != 0 {
         return bench_refuse::part(asked, f.number, b", set %d, address %x", &[set, at]);
     }
-    let mut out = bench_out::to(1);
+    let mut out = bench_out::to(1, asked.machine);
     bench_out::bytes(&mut out, &space[..n]);
     done(asked, &mut out, set, at)
 }
@@ -190,24 +190,24 @@ fn raw_all(out: &mut Out, image: &[u8], board: Board, set_rows: &[u32], set: u32
 
 // That the dump holds all of the set is tested before its first byte is written.
 pub fn raw(asked: Asked, image: &[u8], board: Board, set_rows: &[u32], set: u32) -> u8 {
-    let number = bench_rows::data_number(image, board, set_rows, set);
-    if number != 0 {
-        return bench_refuse::part(asked, number, b", set %d", &[set]);
+    let base = bench_rows::base_of(board);
+    let found = bench_rows::found(image, base, board.served, set_rows, set);
+    if found.number != 0 {
+        return bench_refuse::part(asked, found.number, b", set %d", &[set]);
     }
     let size = rows::set_word(set_rows, set, SetWord::Size);
-    let mut out = bench_out::to(1);
+    let mut out = bench_out::to(1, asked.machine);
     raw_all(&mut out, image, board, set_rows, set, size);
     done(asked, &mut out, set, size)
 }
 
 // A byte, where in the set it is stored, and as what.
 fn show_byte(asked: Asked, set: u32, at: u32, byte: u8, stored: u8, offset: u32) -> u8 {
-    let mut out = bench_out::to(1);
+    let mut out = bench_out::to(1, asked.machine);
     told(
         &mut out,
-        asked.machine,
-        b"set %d, address %x: %b (stored as %b at offset %x)\n",
-        b"ok\nset %d\naddress %d\nbyte %d\nstored.byte %d\nstored.offset %d\n",
+        b"set %d, address %x: %b (stored as %b at offset %x)\n|\
+        ok\nset %d\naddress %d\nbyte %d\nstored.byte %d\nstored.offset %d\n",
         &[set, at, byte as u32, stored as u32, offset],
     );
     bench_refuse::end(asked, &mut out)

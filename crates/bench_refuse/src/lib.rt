@@ -12,7 +12,7 @@ pub struct Asked {
 
 // A script's refusal goes to standard error where the standard output is for bytes.
 fn for_script(to: u8, n: u32) {
-    let mut out = bench_out::to(to);
+    let mut out = bench_out::to(to, true);
     form(&mut out, b"refused %d\nreason %w\n", &[n, n]);
     bench_out::flush(&mut out);
 }
@@ -28,7 +28,7 @@ fn words(out: &mut Out, n: u32) {
 
 // For a person: what it is about, then the words.
 fn for_person(about: usize, n: u32, of: &[u8], numbers: &[u32]) {
-    let mut out = bench_out::to(2);
+    let mut out = bench_out::to(2, false);
     bench_out::text(&mut out, b"bench: ");
     if n != 100 {
         bench_out::file_name(&mut out, about);
@@ -89,7 +89,7 @@ pub fn page_end(out: &mut Out) -> u8 {
     if bench_out::is_whole(out) {
         return 0;
     }
-    let mut other = bench_out::to(2);
+    let mut other = bench_out::to(2, false);
     form(&mut other, b"bench: %w\n", &[115]);
     bench_out::flush(&mut other);
     1

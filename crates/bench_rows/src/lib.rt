@@ -1,7 +1,8 @@
-// The rows of an opened board: what is looked up in them, and whether the dump holds a set.
+// The rows of an opened board: what is looked up in them, and where the dump holds a set.
 use board::Board;
 use rows::RomWord;
 use rows::SetWord;
+use set_data::Found;
 use text::Text;
 ghost use mathlib.Core.Path.{_≡_};
 ghost use Prim.Native.Nat.{_*_};
@@ -43,44 +44,15 @@ pub fn first_type(set_rows: &[u32], rom_rows: &[u32], set: u32) -> u32 {
     rows::rom_word(rom_rows, rom_row(set_rows, set, 0), RomWord::Type)
 }
 
-// Reads the byte at an offset of a set, or no byte where the set is empty: 0, or the number of the refusal.
-fn touch(
-    image: &[u8],
-    board: Board,
-    set_rows: &[u32],
-    set: u32,
-    offset: u32,
-    is_empty: bool,
-) -> u8 {
-    let mut one = [0u8; 1];
-    if is_empty {
-        let none = data_reads::read_rom_set_data(
-            image,
-            board,
-            set_rows,
-            set,
-            offset,
-            &mut one[..0],
-            0,
-        );
-        return none.number;
-    }
-    let r = data_reads::read_rom_set_data(image, board, set_rows, set, offset, &mut one, 0);
-    r.number
+// The address of the dump's first byte.
+pub fn base_of(board: Board) -> u32 {
+    let line = board.line;
+    window::base_after(board.flash_base, board.cs0_base, line)
 }
 
-// Whether the dump holds all of a set's bytes: it does if it holds the first and the last. 0, or the refusal's number.
-pub fn data_number(image: &[u8], board: Board, set_rows: &[u32], set: u32) -> u8 {
-    let size = set_data::get_rom_set_size(board.served, set_rows, set);
-    if size.number != 0 {
-        return size.number;
-    }
-    let first = touch(image, board, set_rows, set, 0, size.value == 0);
-    if first != 0 {
-        return first;
-    }
-    if size.value == 0 {
-        return 0;
-    }
-    touch(image, board, set_rows, set, size.value - 1, false)
+// Where the dump holds all of a set's bytes; or the number that a read of them is refused with.
+pub fn found(image: &[u8], base: u32, served: u32, set_rows: &[u32], set: u32) -> Found {
+    let data = set_data::set_data(served, set_rows, set);
+    let n = data.size as usize;
+    set_data::find(image, base, data, 0, n)
 }

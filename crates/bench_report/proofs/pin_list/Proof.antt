@@ -5,10 +5,10 @@ use Rattle.bench_report.proofs.pin_list.Statement.{statement}
 use Rattle.bench_report.proofs.pin_list.Tie as tie
 
 abbrev Inv-loop : tie.InvT-loop
-Inv-loop out₀ is-machine label key pins i₀ t8 out i = i ≤ length pins
+Inv-loop out₀ start pins i₀ out i = i ≤ length pins
 
 abbrev μ-loop : tie.MeasureT-loop
-μ-loop out₀ is-machine label key pins i₀ t8 out i = length pins - i
+μ-loop out₀ start pins i₀ out i = length pins - i
 
 pub pin-list-spec : {M : Type 1} → statement M
 pin-list-spec =
@@ -21,7 +21,6 @@ pin-list-spec =
     (λ c. search needs)
     (λ c. search needs)
     (λ c κs. search needs)
-    (λ c. search needs)
     (λ c. search needs)
     (λ c. search needs)
     (λ c. search needs)

@@ -4,10 +4,10 @@ use Rattle.bench_same.proofs.all_lines.Statement.{statement}
 use Rattle.bench_same.proofs.all_lines.Tie as tie
 
 abbrev Inv-loop : tie.InvT-loop
-Inv-loop out₀ image board set-rows rom-rows served any₀ set₀ out any set = set ≤ served
+Inv-loop out₀ image base served set-rows rom-rows any₀ set₀ out any set = set ≤ served
 
 abbrev μ-loop : tie.MeasureT-loop
-μ-loop out₀ image board set-rows rom-rows served any₀ set₀ out any set = served - set
+μ-loop out₀ image base served set-rows rom-rows any₀ set₀ out any set = served - set
 
 pub all-lines-spec : {M : Type 1} → statement M
 all-lines-spec =

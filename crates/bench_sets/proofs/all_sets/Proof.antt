@@ -4,10 +4,10 @@ use Rattle.bench_sets.proofs.all_sets.Statement.{statement}
 use Rattle.bench_sets.proofs.all_sets.Tie as tie
 
 abbrev Inv-loop : tie.InvT-loop
-Inv-loop out₀ is-machine image board set-rows rom-rows served is-cut₀ i₀ out is-cut i = i ≤ served
+Inv-loop out₀ image base served set-rows rom-rows is-cut₀ i₀ out is-cut i = i ≤ served
 
 abbrev μ-loop : tie.MeasureT-loop
-μ-loop out₀ is-machine image board set-rows rom-rows served is-cut₀ i₀ out is-cut i = served - i
+μ-loop out₀ image base served set-rows rom-rows is-cut₀ i₀ out is-cut i = served - i
 
 pub all-sets-spec : {M : Type 1} → statement M
 all-sets-spec =

@@ -4,10 +4,10 @@ use Rattle.bench_sets.proofs.roms.Statement.{statement}
 use Rattle.bench_sets.proofs.roms.Tie as tie
 
 abbrev Inv-loop : tie.InvT-loop
-Inv-loop out₀ is-machine image set-rows rom-rows set count k₀ out k = k ≤ count
+Inv-loop out₀ image set-rows rom-rows set count k₀ out k = k ≤ count
 
 abbrev μ-loop : tie.MeasureT-loop
-μ-loop out₀ is-machine image set-rows rom-rows set count k₀ out k = count - k
+μ-loop out₀ image set-rows rom-rows set count k₀ out k = count - k
 
 pub roms-spec : {M : Type 1} → statement M
 roms-spec =

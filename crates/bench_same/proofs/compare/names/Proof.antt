@@ -18,6 +18,8 @@ names-spec =
     (λ c κs. search needs)
     (λ c. search needs)
     (λ c κs. search needs)
+    (λ c κs. search needs)
+    (λ c κs. search needs)
     (λ c. search needs)
     (λ c. search needs)
     (λ c. search needs)

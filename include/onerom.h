@@ -111,7 +111,7 @@ static inline const char *onerom_reason(uint32_t number)
     case ONEROM_REFUSED_UTF8: return "the text is not UTF-8";
     case ONEROM_REFUSED_METADATA_MAGIC: return "metadata does not start with ONEROM_METADATA";
     case ONEROM_REFUSED_METADATA_VERSION: return "metadata's version is not 1";
-    case ONEROM_REFUSED_METADATA_POINTER: return "metadata counts sets and has no address for them";
+    case ONEROM_REFUSED_METADATA_POINTER: return "metadata counts sets, but gives no address";
     case ONEROM_REFUSED_SERVE: return "a set's serving is unknown";
     case ONEROM_REFUSED_STATE: return "a set's multi-ROM state is unknown";
     case ONEROM_REFUSED_TYPE: return "a ROM's type is unknown";
@@ -128,7 +128,7 @@ static inline const char *onerom_reason(uint32_t number)
     case ONEROM_REFUSED_X_MAPPED: return "X1 or X2 is at a pin that an address line has";
     case ONEROM_REFUSED_NO_ROM: return "set 0 has no ROM";
     case ONEROM_REFUSED_UNSUPPORTED: return "set 0's first ROM is of a type that logical reads do not cover";
-    case ONEROM_REFUSED_CONTROL_PIN: return "a control pin that the type uses is not on one of the sixteen pins that are read";
+    case ONEROM_REFUSED_CONTROL_PIN: return "a control pin of the type is not on one of the sixteen pins that are read";
     case ONEROM_REFUSED_ADDRESS: return "the address is above the ROM's last";
     case ONEROM_REFUSED_ROM28C16: return "logical reads do not cover a 28C16";
     case ONEROM_REFUSED_DATA_PIN: return "a data pin is at 8 or above";

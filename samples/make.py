@@ -1,5 +1,5 @@
 #!/usr/bin/env python3
-"""Makes the sample boards beside this file: small dumps of the flash of a One ROM board.
+"""Makes the samples beside this file: small dumps of the flash of a One ROM board, and a record of a running one's RAM.
 
     python3 samples/make.py            writes them
     python3 samples/make.py --check    says whether the files are what it makes
@@ -8,6 +8,7 @@ stm32.img     an STM32 board, firmware 0.4.2, one set
 rp2350.img    an RP2350 board, firmware 0.6.1, five sets: 0 and 3 are the same with equal names, 1 and 4 under different names
 multi.img     an RP2350 board whose set 0 has three ROMs, chosen by CS1, X1 and X2
 damaged.img   a copy of rp2350.img with a fault in each of several places
+runtime.bin   a runtime record, for the program `runtime`
 
 Each ROM holds text, "genoa.bin panel 00" and so on, so that a read that goes wrong is seen at once.
 The offsets within the records are those of document 01.
@@ -243,7 +244,7 @@ MULTI = Board(
 
 
 def damaged():
-    """rp2350.img with faults, and what the bench is to say of each: an item's key and its number."""
+    """rp2350.img with faults, and what the bench is to say of each: a key and its value."""
     image = RP2350.image()
     at = RP2350.at
     image.write(at["header"] + 24, struct.pack("<I", image.base - 1))  # the revision's pointer, below the base: 3
@@ -262,6 +263,8 @@ DAMAGE = {
     "set.1.rom.0.name.number": "21",
     "set.3.rom.0.name.number": "1",
     "set.4.data.number": "2",
+    "set.3.same_as.names": "differ",
+    "set.4.same_as.bytes": "not_held",
 }
 
 
@@ -281,13 +284,21 @@ def boards():
     return {"stm32": STM32.image(), "rp2350": RP2350.image(), "multi": MULTI.image(), "damaged": damaged()}
 
 
+def runtime_record():
+    """Document 01's R1: its bit mode, 3, is none that is known."""
+    head = struct.pack("<4s4B3I4x", b"sdrr", 36, 1, 2, 1, 5, 0x20000000, 65536)
+    return head + struct.pack("<4B3H2B", 1, 0, 2, 11, 150, 300, 300, 1, 3)
+
+
 def main():
-    for name, image in boards().items():
-        path = os.path.join(HERE, name + ".img")
+    files = {name + ".img": bytes(image.bytes) for name, image in boards().items()}
+    files["runtime.bin"] = runtime_record()
+    for name, data in files.items():
+        path = os.path.join(HERE, name)
         if "--check" not in sys.argv:
-            open(path, "wb").write(image.bytes)
-        elif open(path, "rb").read() != image.bytes:
-            sys.exit("%s.img is not what make.py makes" % name)
+            open(path, "wb").write(data)
+        elif open(path, "rb").read() != data:
+            sys.exit("%s is not what make.py makes" % name)
 
 
 if __name__ == "__main__":

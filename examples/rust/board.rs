@@ -8,6 +8,34 @@ mod onerom;
 use onerom::{Board, MAX_ROMS, Refused, SET_FIRST_ROM, SET_ROM_COUNT, SET_SIZE, Settings};
 use std::process::ExitCode;
 
+/// Characters that a reader does not see, and that can change how the rest of a line looks.
+fn is_hidden(c: char) -> bool {
+    matches!(c as u32, 0x061c | 0x200b..=0x200f | 0x2028..=0x202e | 0x2060..=0x2064 | 0x2066..=0x2069 | 0xfeff)
+}
+
+fn escaped(bytes: &[u8]) -> String {
+    bytes.iter().map(|b| format!("\\x{b:02x}")).collect()
+}
+
+/// Text of the dump or the command line, as the bench shows it: a backslash, a control character and what is no UTF-8 are \x and two digits for each
+/// byte, hidden characters \u and four.
+fn shown(text: &[u8]) -> String {
+    let mut line = String::new();
+    for chunk in text.utf8_chunks() {
+        for c in chunk.valid().chars() {
+            if is_hidden(c) {
+                line += &format!("\\u{:04x}", c as u32);
+            } else if c == '\\' || c.is_control() {
+                line += &escaped(c.encode_utf8(&mut [0; 4]).as_bytes());
+            } else {
+                line.push(c);
+            }
+        }
+        line += &escaped(chunk.invalid());
+    }
+    line
+}
+
 fn list(image: &[u8]) -> Result<(), Refused> {
     let mut board = Board::open(image, Settings::default(), MAX_ROMS)?;
     let h = board.report.header;
@@ -18,7 +46,9 @@ fn list(image: &[u8]) -> Result<(), Refused> {
         let mut front = [0; 4];
         let read = board.read(i, 0, &mut front);
         let name = if row[SET_ROM_COUNT] == 0 { None } else { board.name(row[SET_FIRST_ROM]) };
-        print!("set {i}: {} bytes, {} ROMs, {}", row[SET_SIZE], row[SET_ROM_COUNT], name.unwrap_or("(no name)"));
+        let name = name.map_or("(no name)".to_string(), |name| shown(name.as_bytes()));
+        let plural = if row[SET_ROM_COUNT] == 1 { "" } else { "s" };
+        print!("set {i}: {} bytes, {} ROM{plural}, {name}", row[SET_SIZE], row[SET_ROM_COUNT]);
         match read {
             Ok(()) => println!(", starts {:02x} {:02x} {:02x} {:02x}", front[0], front[1], front[2], front[3]),
             Err(refused) => println!(", {refused}"),
@@ -36,22 +66,18 @@ fn list(image: &[u8]) -> Result<(), Refused> {
 }
 
 fn main() -> ExitCode {
-    let Some(path) = std::env::args().nth(1) else {
+    let words: Vec<_> = std::env::args_os().collect();
+    let [_, path] = &words[..] else {
         eprintln!("usage: board DUMP");
+        return ExitCode::from(2);
+    };
+    let answer = match std::fs::read(path) {
+        Ok(image) => list(&image).map_err(|refused| refused.to_string()),
+        Err(error) => Err(error.to_string()),
+    };
+    if let Err(why) = answer {
+        eprintln!("{}: {why}", shown(path.as_encoded_bytes()));
         return ExitCode::FAILURE;
-    };
-    let image = match std::fs::read(&path) {
-        Ok(bytes) => bytes,
-        Err(e) => {
-            eprintln!("{path}: {e}");
-            return ExitCode::FAILURE;
-        }
-    };
-    match list(&image) {
-        Ok(()) => ExitCode::SUCCESS,
-        Err(refused) => {
-            eprintln!("{refused}");
-            ExitCode::FAILURE
-        }
     }
+    ExitCode::SUCCESS
 }

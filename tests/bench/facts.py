@@ -16,6 +16,10 @@ STATE = ["active_low", "active_high", "not_used"]
 PORT = ["none", "A", "B", "C", "D", "0"]
 
 
+def equal_or_not(one, other):
+    return "equal" if one == other else "differ"
+
+
 def set_facts(board, image, i, s, same_as):
     key = "set.%d." % i
     address = struct.unpack_from("<I", image.bytes, board.at["set", i] - board.base)[0]
@@ -26,7 +30,9 @@ def set_facts(board, image, i, s, same_as):
         facts += [("rom.%d.cs%d" % (k, n + 1), STATE[c]) for n, c in enumerate(rom.cs)]
         facts += [("rom.%d.name.number" % k, 0), ("rom.%d.name.text" % k, rom.name)]
     if same_as is not None:
-        facts.append(("same_as", same_as))
+        other = board.sets[same_as]
+        names, data = ([rom.name for rom in a.roms] for a in (s, other)), (board.pins.set_data(a) for a in (s, other))
+        facts += [("same_as", same_as), ("same_as.names", equal_or_not(*names)), ("same_as.bytes", equal_or_not(*data))]
     return [(key + name, str(value)) for name, value in facts]
 
 

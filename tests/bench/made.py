@@ -23,6 +23,17 @@ def one_rom_sets(names, serves):
     return bytes(board_of([make.RomSet([make.Rom(n, make.ROM_2316)], 2048, s) for n, s in zip(names, serves)]).image().bytes)
 
 
+def uf2(data):
+    """The bytes in a UF2 file's blocks of 512, 256 of them in each."""
+    parts = [data[n : n + 256] for n in range(0, len(data), 256)]
+    head = b"UF2\n" + struct.pack("<I", 0x9E5D5157)
+    blocks = (
+        head + struct.pack("<6I", 0, make.RP2350.base + 256 * n, len(part), n, len(parts), 0) + part.ljust(476, b"\0") + struct.pack("<I", 0x0AB16F30)
+        for n, part in enumerate(parts)
+    )
+    return b"".join(blocks)
+
+
 def made():
     whole = bytes(make.RP2350.image().bytes)
     odd = ["two\nlines", "\x1b[31mred", "back\\slash", "c1\x9b", "voile \u00e0 livarde", ""]
@@ -37,6 +48,9 @@ def made():
         "newer.img": changed(("header", 4, struct.pack("<4H", 0, 7, 0, 0))),
         "odd.img": one_rom_sets(odd, [1] * 6),
         "three.img": one_rom_sets(["genoa.bin"] * 4, [1, 2, 1, 1]),
+        "board.uf2": uf2(whole),
+        "large.uf2": uf2(whole + bytes(2**20)),
+        "board.elf": b"\x7fELF\2\1\1" + bytes(57) + whole,
         "crowded.img": bytes(make.crowded(17, 241).bytes),
     }
 

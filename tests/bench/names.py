@@ -37,7 +37,7 @@ def names(at):
     for n, name in enumerate(TYPES):
         image = changed((("rom", 0, 0), 0, bytes([n])))
         has(at, image, {"set.0.rom.0.type": name})
-        expect(b"\n  ROM 0: %s, CS1 " % name.encode() in run(at, "made/named.img")[0], "type %d for a person" % n)
+        expect(b"\n  ROM 0: %s, file " % name.encode() in run(at, "made/named.img")[0], "type %d for a person" % n)
     for n, name in enumerate(LINES):
         has(at, header(28, "<H", n), {"mcu.line": name, "sets.served": 5}, "--flash-base", "0x10000000")
     for n, (name, kib) in enumerate(STORAGES):
@@ -46,7 +46,7 @@ def names(at):
         wanted = {"flag." + name: int(i == k) for i, name in enumerate(FLAGS + ["access_count"])}
         has(at, one_flag(k), wanted)
         said = run(at, "made/named.img")[0]
-        label = ["overclock", "SWD", "preload to RAM", "bootloader", "status LED", "boot logging", "MCO", "access counting"][k]
+        label = ["overclock", "SWD", "preload to RAM", "bootloader", "status LED", "boot logging", "MCO", "access count"][k]
         expect(said.count(b" on,") + said.count(b" on\n") >= 1 and (label + " on").encode() in said, label + " for a person")
     for n in range(8):
         has(at, extra_with(5, bytes([n])), {"extra.usb_port": (PORT + ["none", "none"])[n]})
@@ -54,7 +54,7 @@ def names(at):
     has(at, *pins_of_all_kinds())
     for n, name in enumerate(STATE):
         has(at, changed((("rom", 0, 0), 2, bytes([n])), (("set", 0), 14, bytes([n]))), {"set.0.rom.0.cs2": name, "set.0.multi_rom_state": n})
-    for n, name in enumerate((b"A (two CS checks per address)", b"B (address on CS)", b"C (address on any CS)")):
+    for n, name in enumerate((b"A (CS checked twice)", b"B (address on CS)", b"C (address on any CS)")):
         has(at, changed((("set", 2), 13, bytes([n]))), {"set.2.serve": n})
         expect(b"set 2: 4096 bytes at 0x10001678, 1 ROM, serving " + name in run(at, "made/named.img")[0], "serve %d for a person" % n)
     config = struct.pack("<II", make.RP2350.base, make.RP2350.base + 16)

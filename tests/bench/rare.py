@@ -56,6 +56,6 @@ def damaged_boards(at):
         for words in ([], ["read", "0"], ["raw", "1"], ["byte", "0", "3"]):
             out, err = run(at, file, *words)
             expect((out == b"") == (err != b"") or (words[:1] == ["raw"] and err == b""), "damaged board %d, %r" % (k, words))
-            expect(err.count(b"\n") <= 1, "damaged board %d, %r: one line" % (k, words))
+            expect(err.count(b"\n") <= 2, "damaged board %d, %r: two lines at most" % (k, words))
             lines = run(at, file, *words, "--machine")[1 if words[:1] in (["read"], ["raw"]) else 0].split(b"\n")
             expect(lines[0] == b"ok" if err == b"" else lines[0].startswith(b"refused "), "damaged board %d, %r, for a script" % (k, words))

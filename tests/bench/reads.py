@@ -19,7 +19,6 @@ def reads(at):
         for i, s in enumerate(board.sets):
             same(bytes_of(at, "samples/%s.img" % name, "raw", str(i)), board.pins.set_data(s), "%s raw %d" % (name, i))
     same(bytes_of(at, "samples/stm32.img", "read", "0"), make.STM32.sets[0].roms[0].text(), "stm32 read 0")
-    same(bytes_of(at, "read", "0"), make.RP2350.sets[0].roms[0].text(), "rp2350 read 0, the sample without a name")
     for i in (0, 1, 3, 4):
         rom = make.RP2350.sets[i].roms[0]
         same(bytes_of(at, "samples/rp2350.img", "read", str(i), "low"), rom.text(), "rp2350 read %d" % i)

@@ -66,6 +66,12 @@ def numbers(at):
     refused_whole(at, 1, table[1], "--flash-base", "0xffffffff")
     refused_whole(at, 112, table[112], "made/large.img")
     refused_whole(at, 109, table[109], "made")
+    # A file that holds a dump in parts, whatever is asked of it, and however long it is; but a board that opens is one.
+    for number, file in ((117, "made/board.uf2"), (117, "made/large.uf2"), (118, "made/board.elf")):
+        for words in ([], ["read", "0"], ["raw", "0"], ["byte", "0", "0"]):
+            refused_whole(at, number, table[number], file, *words)
+    for start in (b"UF2\n", b"\x7fELF"):
+        same(dict(facts_of(at, put(at, "start.img", start + changed()[4:])))["sets.served"], "5", "a board that starts with %r" % start)
     # 2 MiB is not too large, a byte more is; 4,096 ROMs are not too many, 4,097 are.
     refused_whole(at, 10, table[10], put(at, "two.img", bytes(2097152)))
     same(dict(facts_of(at, put(at, "full.img", make.crowded(16, 255).bytes + b"")))["sets.served"], "16", "4,080 ROMs")
@@ -73,7 +79,7 @@ def numbers(at):
     refused_whole(at, 45, table[45], "made/crowded.img")
     # What can't be written is said.
     with open("/dev/full", "wb") as full:
-        done = subprocess.run([PROGRAM, "raw", "0"], cwd=at, stdout=full, stderr=subprocess.PIPE, timeout=60)
+        done = subprocess.run([PROGRAM, "samples/rp2350.img", "raw", "0"], cwd=at, stdout=full, stderr=subprocess.PIPE, timeout=60)
     same(done.stderr.decode(), "bench: samples/rp2350.img, set 0: %s\n" % table[115], "a full device")
     with open("/dev/full", "wb") as full:
         done = subprocess.run([PROGRAM, "--machine"], cwd=at, stdout=full, stderr=subprocess.PIPE, timeout=60)

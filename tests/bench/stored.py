@@ -28,6 +28,7 @@ def readme(at):
     text = open(os.path.join(TOP, "README.md"), encoding="utf-8").read()
     sample = open(os.path.join(STORED, "sample.txt"), encoding="utf-8").read().split("\n", 1)[1]
     example = open(os.path.join(TOP, "tests", "data", "example.txt"), encoding="utf-8").read()
-    for wanted in (sample, example):
+    record = open(os.path.join(TOP, "crates", "runtime", "stdout"), encoding="utf-8").read()
+    for wanted in (sample, example, record):
         block = "".join("    " + line + "\n" if line else "\n" for line in wanted.split("\n")[:-1])
         expect(block in text, "README.md does not show\n" + block)

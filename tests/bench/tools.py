@@ -59,9 +59,9 @@ def words_of_numbers():
 def refused_whole(at, number, words, *arguments):
     """The call is refused: its last line has the words, a script's first two have number and words, and there is nothing else."""
     out, err = run(at, *arguments)
-    expect(out == b"" and err.count(b"\n") == 1, "%r: one line on standard error" % (arguments,))
-    said = "refused with %d: %s" % (number, words) if number < 100 else words
-    expect(err.decode().endswith(": " + said + "\n"), "%r: %r" % (arguments, err))
+    said = "refused with %d:\n  %s" % (number, words) if number < 100 else words
+    expect(out == b"" and err.decode().endswith(": " + said + "\n"), "%r: %r" % (arguments, err))
+    same(err.count(b"\n"), 1 + said.count("\n"), "%r: lines on standard error" % (arguments,))
     out, err = run(at, *arguments, "--machine")
     to, other = (err, out) if "read" in arguments or "raw" in arguments else (out, err)
     same((to.decode(), other), ("refused %d\nreason %s\n" % (number, words), b""), "%r" % (arguments,))

@@ -26,6 +26,10 @@ test_bench_command_line() {
     bench_part words
 }
 
+test_bench_wrapper() {
+    bench_part wrapper
+}
+
 test_bench_reads_are_the_roms_text() {
     bench_part reads
 }
@@ -36,6 +40,62 @@ test_bench_numbers_in_plain_words() {
 
 test_bench_settings() {
     bench_part settings
+}
+
+test_bench_exit_status() {
+    bench_part statuses
+}
+
+test_bench_needs_a_file() {
+    bench_part required
+}
+
+test_bench_numbers_and_options() {
+    bench_part spelled
+}
+
+test_bench_many_arguments() {
+    bench_part many
+}
+
+test_bench_full_disk_or_closed_output() {
+    bench_part full
+}
+
+test_bench_reader_goes_away() {
+    bench_part leaving
+}
+
+test_bench_slow_reader() {
+    bench_part slow
+}
+
+test_bench_bytes_untouched() {
+    bench_part untouched
+}
+
+test_bench_standard_input_and_folders() {
+    bench_part inputs
+}
+
+test_bench_unreadable_files() {
+    bench_part unreadable
+}
+
+test_bench_hints() {
+    bench_part hints
+}
+
+test_bench_odd_names() {
+    bench_part odd
+}
+
+test_bench_names_and_bytes_of_same_sets() {
+    bench_part alike
+}
+
+test_bench_80_columns() {
+    bench_part columns
 }
 
 test_bench_readme_is_real() {
@@ -55,6 +115,8 @@ test_bench_help_fits_a_screen() {
 # The first command of the README: from any folder, a file is looked for from where the caller stands.
 test_bench_command() {
     ./bench | cmp - crates/bench/stdout &&
-        (cd samples && ../bench rp2350.img) | tail -n +2 | cmp - <(tail -n +2 crates/bench/stdout) &&
-        (cd docs && ../bench raw 0) | cmp - <(target/bin/bench raw 0)
+        (cd docs && ../bench) | cmp - crates/bench/stdout &&
+        (cd samples && ../bench rp2350.img) | cmp - <(sed '1s/.*:/rp2350.img:/' crates/bench/stdout) &&
+        (cd docs && ../bench -- ../samples/rp2350.img raw 0) | cmp - <(target/bin/bench samples/rp2350.img raw 0) &&
+        (cd docs && ../bench --info-offset=512 - raw 0 <../samples/rp2350.img) | cmp - <(target/bin/bench samples/rp2350.img raw 0)
 }

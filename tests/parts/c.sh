@@ -50,6 +50,25 @@ test_rust_example() {
         cmp target/example-rust.out tests/data/example.txt
 }
 
+# Both on odd names, on sets of no and of several ROMs, and on files that can't be opened.
+test_c_example_names() {
+    needs python3
+    python3 -B tests/c/examples.py target/example-c
+}
+
+test_rust_example_names() {
+    needs rustc
+    needs python3
+    python3 -B tests/c/examples.py target/example-rust
+}
+
+# What the example could not write it says.
+test_c_example_full_disk() {
+    local said
+    said=$(target/example-c samples/rp2350.img 2>&1 >/dev/full)
+    [ $? -eq 1 ] && [ "$said" = "the answer could not all be written" ]
+}
+
 # The same fields in Rust, on the board of the C test.
 test_rust_fields() {
     needs rustc

@@ -60,3 +60,45 @@ test_runtime_vectors_of_the_program() {
     done <tests/data/runtime.txt
     [ $n -gt 200 ]
 }
+
+# README's call, on the sample that the gate runs the program on too.
+test_runtime_sample() {
+    cmp samples/runtime.bin crates/runtime/stdin && target/bin/runtime <samples/runtime.bin | cmp - crates/runtime/stdout
+}
+
+# says OUTPUT ERROR ARGUMENT...: what the program writes to standard output and to standard error, lines joined by '|'; its input is this function's
+says() {
+    local out=$1 err=$2
+    shift 2
+    target/bin/runtime "$@" 2>target/runtime.err | gives "$out" && gives "$err" <target/runtime.err
+}
+
+# Help goes to standard error, on one screen; no record is read, and standard output stays empty.
+test_runtime_help() {
+    local asked
+    for asked in --help -h; do
+        target/bin/runtime "$asked" <samples/runtime.bin 2>target/runtime.err | cmp - /dev/null &&
+            cmp target/runtime.err tests/data/runtime-help.txt || return 1
+    done
+    [ "$(wc -l <tests/data/runtime-help.txt)" -le 24 ] && [ "$(wc -L <tests/data/runtime-help.txt)" -le 80 ]
+}
+
+# Input that can't be read is said; standard output is as of an input that ends there.
+test_runtime_unreadable_input() {
+    says "refused 2" "runtime: standard input could not be read: Is a directory" </ &&
+        says "refused 2" "runtime: standard input could not be read: Bad file descriptor" <&- &&
+        says "refused 2" "runtime: standard input could not be read: Input/output error" </proc/self/mem
+}
+
+# An argument that is not understood is said, and the record is read all the same.
+test_runtime_argument() {
+    local note="runtime: reads standard input, and no argument but --help counts"
+    says "$(tr '\n' '|' <crates/runtime/stdout | sed 's/|$//')" "$note" record.bin <samples/runtime.bin
+}
+
+# What was not written is said.
+test_runtime_full_disk() {
+    local what="runtime: standard output could not all be written"
+    target/bin/runtime <samples/runtime.bin 2>&1 >/dev/full | gives "$what: No space left on device" &&
+        target/bin/runtime <samples/runtime.bin 2>&1 >&- | gives "$what: Bad file descriptor"
+}

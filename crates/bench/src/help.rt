@@ -1,17 +1,17 @@
-// The help, on one screen.
-use super::say;
-use libc::STDOUT_FILENO;
+// The help, on one screen; and the version.
+use bench_out::Out;
 
-pub(crate) fn help() {
-    say::text(
-        STDOUT_FILENO,
+pub(crate) fn help(out: &mut Out) {
+    bench_out::text(
+        out,
         b"bench: says what the flash of a One ROM board holds\n\n  \
-        bench [FILE]                             firmware, pins, sets, ROMs, same sets\n  \
-        bench [FILE] read SET [LEVELS]           a set's bytes as its socket has them\n  \
-        bench [FILE] raw SET                     a set's bytes as they are stored\n  \
-        bench [FILE] byte SET ADDRESS [LEVELS]   one byte as the socket has it\n  \
-        bench help                               this page\n\n\
-        FILE     a dump of the flash, at most 2 MiB; without it, samples/rp2350.img\n\
+        bench [FILE]                           firmware, pins, sets, ROMs, same sets\n  \
+        bench FILE read SET [LEVELS]           a set's bytes as its socket has them\n  \
+        bench FILE raw SET                     a set's bytes as they are stored\n  \
+        bench FILE byte SET ADDRESS [LEVELS]   one byte as the socket has it\n  \
+        bench help, bench --version            this page; the version\n\n\
+        FILE     a dump of the flash, at most 2 MiB, - for standard input; a report\n         \
+        without it shows the sample board, samples/rp2350.img\n\
         SET      a set's number; numbers are decimal, or hexadecimal after 0x\n\
         ADDRESS  from 0 to the last of set 0's first ROM type\n\
         LEVELS   which lines are high, as cs1=1,x2=0 (of cs1 cs2 cs3 x1 x2); those\n         \
@@ -22,6 +22,12 @@ pub(crate) fn help() {
         --info-offset N   where the info header starts in the dump (512)\n\n\
         read and byte go by set 0's ROM count and first type; where the set's own\n\
         differ, they write no byte. Sets are the same where size, ROM count, serving and\n\
-        types agree; names and bytes are not compared. Messages go to standard error.\n",
+        types agree; the report says if names and bytes do. Messages: standard error.\n\
+        Exit status: 0 an answer; 1 none, or not whole; 2 words not understood.\n",
     );
+}
+
+// The version of include/onerom.h.
+pub(crate) fn version(out: &mut Out) {
+    bench_out::text(out, b"bench 1.0\n");
 }

@@ -1,23 +1,12 @@
-// The bench: what the flash of a One ROM board holds, for a person or a script; and the bytes of its sets.
-mod args; // the command line
-mod words; // words and numbers in it
-mod levels; // LEVELS
-mod file; // the dump
-mod lent; // the rows of an opened board
-mod say; // words and numbers on a descriptor
-mod names; // the names of what a board can have
-mod meaning; // numbers in plain words
-mod form; // lines with numbers in them
-mod refuse; // why there is no answer
-mod numbers; // what records hold, as numbers
-mod report; // the report, but the sets
-mod sets; // the sets in it
-mod same; // which sets are the same
-mod reads; // bytes of a set
+// The bench: what the flash of a One ROM board holds, for a person or a script; and the bytes of its sets. Each function that answers says the
+// status that the program ends with.
 mod help;
 
-use args::Request;
-use libc::STDOUT_FILENO;
+use bench_args::Request;
+use bench_form::told;
+use bench_out::Out;
+use bench_refuse::Asked;
+use board::Board;
 use sdrr_info::SdrrInfo;
 ghost use mathlib.Core.Path.{_≡_};
 ghost use lib.ListN.{length};
@@ -29,105 +18,171 @@ fn image_space() -> [u8; 2097152]
     [0; 2097152]
 }
 
-fn heading(request: Request, length: usize) {
-    let n = (length % 4294967296) as u32;
-    if !request.machine {
-        file::name(STDOUT_FILENO, request.file);
+fn asked(request: Request) -> Asked {
+    Asked {
+        machine: request.machine,
+        bytes: bench_args::is_bytes(request),
+        file: request.file,
     }
-    form::told(
-        request.machine,
-        b": a One ROM board, %d bytes\n",
-        b"ok\ndump.bytes %d\n",
-        &[n],
-    );
 }
 
-fn whole_report(
+// The first line. The sample is no board of the caller's: it says so.
+fn heading(out: &mut Out, file: usize, length: usize) {
+    if !bench_out::is_script(out) {
+        bench_out::file_name(out, file);
+    }
+    if file == 0 {
+        told(out, b", the sample board|ok\ndump.sample 1\n", &[]);
+    } else {
+        told(out, b"|ok\n", &[]);
+    }
+    let n = (length % 4294967296) as u32;
+    told(out, b": a One ROM board, %d bytes\n|dump.bytes %d\n", &[n]);
+}
+
+// The sets; and the hint where something does not lie within the dump.
+fn sets(
+    out: &mut Out,
+    image: &[u8],
+    base: u32,
+    info: SdrrInfo,
+    set_rows: &[u32],
+    rom_rows: &[u32],
+) {
+    let item = info.rom_sets;
+    bench_sets::count(out, item, bench_report::lacks_metadata(info));
+    let is_cut = bench_sets::sets(out, image, base, item.served, set_rows, rom_rows);
+    if base::either(is_cut, bench_report::is_cut(info)) {
+        bench_report::cut_note(out);
+    }
+}
+
+fn report(
+    how: Asked,
+    image: &[u8],
+    base: u32,
+    info: SdrrInfo,
+    set_rows: &[u32],
+    rom_rows: &[u32],
+) -> u8 {
+    let mut out = bench_out::to(1, how.machine);
+    heading(&mut out, how.file, image.len());
+    bench_report::records(&mut out, image, info);
+    sets(&mut out, image, base, info, set_rows, rom_rows);
+    bench_refuse::end(how, &mut out)
+}
+
+fn bytes(request: Request, image: &[u8], board: Board, set_rows: &[u32], rom_rows: &[u32]) -> u8 {
+    let how = asked(request);
+    let set = request.set;
+    if request.command == bench_args::RAW {
+        return bench_reads::raw(how, image, board, set_rows, set);
+    }
+    let at = request.address;
+    let cs_set = bench_args::levels::cs_set(request.levels);
+    if request.command == bench_args::READ {
+        return bench_reads::read(how, image, board, set_rows, rom_rows, set, cs_set);
+    }
+    bench_reads::byte(how, image, board, set_rows, rom_rows, set, at, cs_set)
+}
+
+fn answer(
     request: Request,
     image: &[u8],
     info: SdrrInfo,
     set_rows: &[u32],
     rom_rows: &[u32],
-) {
-    let settings = args::settings(request);
+) -> u8 {
+    let settings = bench_args::settings(request);
     let board = sdrr_info::board(settings, info);
-    let item = info.rom_sets;
-    heading(request, image.len());
-    report::records(request.machine, image, info);
-    let m = info.metadata;
-    let is_lost = report::lacks_metadata(m);
-    let is_cut = sets::sets(
-        request.machine,
-        image,
-        board,
-        item,
-        is_lost,
-        set_rows,
-        rom_rows,
-    );
-    report::end_note(request.machine, info, is_cut);
-    refuse::end(request);
-}
-
-fn answer(request: Request, image: &[u8], info: SdrrInfo, set_rows: &[u32], rom_rows: &[u32]) {
-    let settings = args::settings(request);
-    let board = sdrr_info::board(settings, info);
-    let command = request.command;
-    if command == args::READ {
-        reads::read(request, image, board, set_rows, rom_rows);
-    } else if command == args::RAW {
-        reads::raw(request, image, board, set_rows);
-    } else if command == args::BYTE {
-        reads::byte(request, image, board, set_rows, rom_rows);
-    } else {
-        whole_report(request, image, info, set_rows, rom_rows);
+    if request.command == bench_args::REPORT {
+        let base = bench_rows::base_of(board);
+        return report(asked(request), image, base, info, set_rows, rom_rows);
     }
+    bytes(request, image, board, set_rows, rom_rows)
 }
 
-// An empty file is refused by the library with 2; for a person there are clearer words. Otherwise 2 is about the header.
-fn refused_opening(request: Request, number: u8, length: usize) {
-    let is_plain = base::both(length == 0, !request.machine);
-    let n = if is_plain { 114 } else { number };
+// An empty file is refused by the library with 2; for a person there are clearer words. A file that is no dump but holds one has words of its own.
+fn opening_number(machine: bool, number: u8, image: &[u8]) -> u8 {
+    if image.len() == 0 {
+        return if machine { number } else { 114 };
+    }
+    let form = bench_file::form_number(image);
+    if form != 0 {
+        return form;
+    }
+    number
+}
+
+// Here 2 is about the header.
+fn refused_opening(how: Asked, number: u8, image: &[u8]) -> u8 {
+    let n = opening_number(how.machine, number, image);
     if n == 2 {
-        refuse::part(request, n, b", info header", &[]);
-    } else {
-        refuse::part(request, n, b"", &[]);
+        return bench_refuse::part(how, n, b", info header", &[]);
     }
+    bench_refuse::part(how, n, b"", &[])
 }
 
-fn open(request: Request, image: &[u8]) {
-    let mut set_rows = lent::set_space();
-    let mut rom_rows = lent::rom_space();
-    let settings = args::settings(request);
+fn open(request: Request, image: &[u8]) -> u8 {
+    let mut set_rows = bench_rows::set_space();
+    let mut rom_rows = bench_rows::rom_space();
+    let settings = bench_args::settings(request);
     let opening = fw_parser::parse_flash(image, settings, &mut set_rows, &mut rom_rows);
     if opening.number != 0 {
-        refused_opening(request, opening.number, image.len());
-        return;
+        return refused_opening(asked(request), opening.number, image);
     }
     let info = opening.info;
-    answer(request, image, info, &set_rows, &rom_rows);
+    answer(request, image, info, &set_rows, &rom_rows)
 }
 
-fn run(request: Request) {
+fn run(request: Request) -> u8 {
     let mut image = image_space();
-    let loaded = file::load(request.file, &mut image);
+    let loaded = bench_file::load(request.file, request.sample, &mut image);
     let n = loaded.length;
     if loaded.number != 0 {
-        refuse::part(request, loaded.number, b"", &[]);
-        return;
+        return bench_refuse::part(asked(request), loaded.number, b"", &[]);
     }
-    open(request, &image[..n]);
+    open(request, &image[..n])
+}
+
+// Help and the version are plain text in every form.
+fn page(is_version: bool) -> u8 {
+    let mut out = bench_out::to(1, false);
+    if is_version {
+        help::version(&mut out);
+    } else {
+        help::help(&mut out);
+    }
+    bench_refuse::page_end(&mut out)
+}
+
+fn done(request: Request) -> u8 {
+    if request.help {
+        return page(false);
+    }
+    if request.version {
+        return page(true);
+    }
+    if request.number != 0 {
+        return bench_refuse::arguments(asked(request), request.number, request.about);
+    }
+    if request.command == bench_args::HELP {
+        return page(false);
+    }
+    run(request)
+}
+
+// The status is one digit on descriptor 3, the last that is written.
+fn tell(status: u8) {
+    let mut out = bench_out::to(3, true);
+    bench_out::number(&mut out, status as u32);
+    bench_out::flush(&mut out);
 }
 
 fn main() {
-    let request = args::parse();
-    if request.help {
-        help::help();
-    } else if request.number != 0 {
-        refuse::arguments(request);
-    } else if request.command == args::HELP {
-        help::help();
-    } else {
-        run(request);
+    let request = bench_args::parse();
+    let status = done(request);
+    if request.status {
+        tell(status);
     }
 }

@@ -1,0 +1,77 @@
+// Lines with numbers in them. A form's text goes out as it stands; % and a letter stand for the next number:
+//   %d decimal            %x 0x and eight digits    %b 0x and two digits      %n a pin, - for none
+//   %r a count of ROMs    %t a ROM type             %c a chip-select state    %s a serving
+//   %l a line             %k a storage code         %K its KiB                %p a port
+//   %o on or off          %f the same as 1 or 0     %w what a number means    %m what a name's number means
+//   %a a chip-select state in one word              %e, %h what a comparison shows, for a person and for a script
+use bench_out::Out;
+ghost use Prim.Native.Nat.{_≤_, _<_};
+ghost use lib.ListN.{length};
+
+// A number past the end of the list is 0.
+fn number_at(numbers: &[u32], k: usize) -> u32 {
+    if numbers.len() <= k {
+        return 0;
+    }
+    numbers[k]
+}
+
+fn put(out: &mut Out, letter: u8, n: u32) {
+    match letter {
+        b'd' => bench_out::number(out, n),
+        b'x' => bench_out::hex(out, n, 8),
+        b'b' => bench_out::hex(out, n, 2),
+        b'n' => bench_names::pin(out, n),
+        b'r' => bench_names::rom_count(out, n),
+        b't' => bench_names::rom_type(out, n),
+        b'w' => bench_names::words(out, n),
+        b'm' => bench_names::words_of_name(out, n),
+        _ => bench_names::named(out, letter, n),
+    }
+}
+
+// A character of a form, or a mark and its letter: how many bytes that is.
+fn piece(out: &mut Out, form: &[u8], at: usize, n: u32) -> usize
+    requires { ⌜ at < length (now form) ⌝ }
+    ensures { λ r. ⌜ (1 ≤ r) × (r ≤ 2) ⌝ }
+{
+    let b = form[at];
+    if b != b'%' {
+        bench_out::byte(out, b);
+        return 1;
+    }
+    put(out, le::u8_at(form, at + 1), n);
+    2
+}
+
+pub fn form(out: &mut Out, form: &[u8], numbers: &[u32]) {
+    let mut at = 0;
+    let mut k = 0;
+    while at < form.len() {
+        let n = piece(out, form, at, number_at(numbers, k));
+        k += n - 1;
+        at += n;
+    }
+}
+
+// Where the form for a script starts: behind the bar; at the end where there is none.
+fn script_start(forms: &[u8], bar: usize) -> usize
+    requires { ⌜ bar ≤ length (now forms) ⌝ }
+    ensures { λ r. ⌜ r ≤ length (now (forms .entry)) ⌝ }
+{
+    if bar < forms.len() {
+        return bar + 1;
+    }
+    bar
+}
+
+// The form for a person or, behind a bar, the one for a script.
+pub fn told(out: &mut Out, forms: &[u8], numbers: &[u32]) {
+    let bar = bytes::scan::find(forms, 0, forms.len(), b'|');
+    if bench_out::is_script(out) {
+        let from = script_start(forms, bar);
+        form(out, &forms[from..], numbers);
+    } else {
+        form(out, &forms[0..bar], numbers);
+    }
+}

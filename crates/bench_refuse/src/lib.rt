@@ -1,0 +1,96 @@
+// Why there is no answer, and how an answer ends. Each call says the status that the program ends with: 0 for an answer that was written whole,
+// 1 for a refusal or an answer that was not, 2 for words that are not understood.
+use bench_form::form;
+use bench_out::Out;
+
+// How the answer is wanted: for a script, as bytes on standard output; and the argument that names the file (0: the sample).
+pub struct Asked {
+    pub machine: bool,
+    pub bytes: bool,
+    pub file: usize,
+}
+
+// A script's refusal goes to standard error where the standard output is for bytes.
+fn for_script(to: u8, n: u32) {
+    let mut out = bench_out::to(to, true);
+    form(&mut out, b"refused %d\nreason %w\n", &[n, n]);
+    bench_out::flush(&mut out);
+}
+
+// The words; a number of document 01 is shown before them, on the line above.
+fn words(out: &mut Out, n: u32) {
+    if n < 100 {
+        form(out, b"refused with %d:\n  %w\n", &[n, n]);
+    } else {
+        form(out, b"%w\n", &[n]);
+    }
+}
+
+// For a person: what it is about, then the words.
+fn for_person(about: usize, n: u32, of: &[u8], numbers: &[u32]) {
+    let mut out = bench_out::to(2, false);
+    bench_out::text(&mut out, b"bench: ");
+    if n != 100 {
+        bench_out::file_name(&mut out, about);
+        form(&mut out, of, numbers);
+        bench_out::text(&mut out, b": ");
+    }
+    words(&mut out, n);
+    bench_out::flush(&mut out);
+}
+
+// Something of the file is refused: a form and its numbers say what.
+pub fn part(asked: Asked, number: u8, of: &[u8], numbers: &[u32]) -> u8 {
+    let n = number as u32;
+    if asked.machine {
+        for_script(if asked.bytes { 2 } else { 1 }, n);
+    } else {
+        for_person(asked.file, n, of, numbers);
+    }
+    1
+}
+
+// The command line is not understood, by the argument `about`.
+pub fn arguments(asked: Asked, number: u8, about: usize) -> u8 {
+    let n = number as u32;
+    if asked.machine {
+        for_script(if asked.bytes { 2 } else { 1 }, n);
+    } else {
+        for_person(about, n, b"", &[]);
+    }
+    2
+}
+
+// Ends an answer, of which a form and its numbers say what it is about: what is gathered is written. Where not all could be, standard error says so.
+pub fn ended(asked: Asked, out: &mut Out, of: &[u8], numbers: &[u32]) -> u8 {
+    bench_out::flush(out);
+    if bench_out::is_whole(out) {
+        return 0;
+    }
+    if asked.machine {
+        for_script(2, 115);
+    } else {
+        for_person(asked.file, 115, of, numbers);
+    }
+    1
+}
+
+// The end of a report or a byte. A script's last line is `end`: without it the answer was cut short on its way.
+pub fn end(asked: Asked, out: &mut Out) -> u8 {
+    if asked.machine {
+        bench_out::text(out, b"end\n");
+    }
+    ended(asked, out, b"", &[])
+}
+
+// The end of the help, which is about no file.
+pub fn page_end(out: &mut Out) -> u8 {
+    bench_out::flush(out);
+    if bench_out::is_whole(out) {
+        return 0;
+    }
+    let mut other = bench_out::to(2, false);
+    form(&mut other, b"bench: %w\n", &[115]);
+    bench_out::flush(&mut other);
+    1
+}

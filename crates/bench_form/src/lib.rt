@@ -4,6 +4,7 @@
 //   %l a line             %k a storage code         %K its KiB                %p a port
 //   %o on or off          %f the same as 1 or 0     %w what a number means    %m what a name's number means
 //   %a a chip-select state in one word              %e, %h what a comparison shows, for a person and for a script
+//   %_ nothing: the number is passed over
 use bench_out::Out;
 ghost use Prim.Native.Nat.{_≤_, _<_};
 ghost use lib.ListN.{length};
@@ -19,6 +20,7 @@ fn number_at(numbers: &[u32], k: usize) -> u32 {
 fn put(out: &mut Out, letter: u8, n: u32) {
     match letter {
         b'd' => bench_out::number(out, n),
+        b'_' => (),
         b'x' => bench_out::hex(out, n, 8),
         b'b' => bench_out::hex(out, n, 2),
         b'n' => bench_names::pin(out, n),
@@ -74,4 +76,15 @@ pub fn told(out: &mut Out, forms: &[u8], numbers: &[u32]) {
     } else {
         form(out, &forms[0..bar], numbers);
     }
+}
+
+// The start of an item, with its number for a script; then what a refusal means. Whether it is accepted.
+pub fn item(out: &mut Out, start: &[u8], refusal: &[u8], number: u8) -> bool {
+    let n = number as u32;
+    told(out, start, &[n]);
+    if n == 0 {
+        return true;
+    }
+    told(out, refusal, &[n, n]);
+    false
 }

@@ -107,6 +107,33 @@ fn done(asked: Asked, out: &mut Out, set: u32, length: u32) -> u8 {
     counted(asked, status, length)
 }
 
+// Reads the set's bytes into the space, and writes them where all could be read.
+fn read_into(
+    asked: Asked,
+    image: &[u8],
+    board: Board,
+    set_rows: &[u32],
+    rom_rows: &[u32],
+    set: u32,
+    cs_set: SdrrCsSet,
+) -> u8 {
+    let mut space = byte_space();
+    let f = fill(image, board, set_rows, rom_rows, set, cs_set, &mut space);
+    let n = f.length;
+    written(asked, &space[..n], set, f.number)
+}
+
+// The bytes that were read; or the refusal of the address behind them.
+fn written(asked: Asked, bytes: &[u8], set: u32, number: u8) -> u8 {
+    let at = (bytes.len() % 4294967296) as u32;
+    if number != 0 {
+        return bench_refuse::part(asked, number, b", set %d, address %x", &[set, at]);
+    }
+    let mut out = bench_out::to(1, asked.machine);
+    bench_out::bytes(&mut out, bytes);
+    done(asked, &mut out, set, at)
+}
+
 pub fn read(
     asked: Asked,
     image: &[u8],
@@ -120,16 +147,7 @@ pub fn read(
     if number != 0 {
         return bench_refuse::part(asked, number, b", set %d", &[set]);
     }
-    let mut space = byte_space();
-    let f = fill(image, board, set_rows, rom_rows, set, cs_set, &mut space);
-    let n = f.length;
-    let at = (n % 4294967296) as u32;
-    if f.number != 0 {
-        return bench_refuse::part(asked, f.number, b", set %d, address %x", &[set, at]);
-    }
-    let mut out = bench_out::to(1, asked.machine);
-    bench_out::bytes(&mut out, &space[..n]);
-    done(asked, &mut out, set, at)
+    read_into(asked, image, board, set_rows, rom_rows, set, cs_set)
 }
 
 fn least(a: u32, b: u32) -> u32
@@ -213,6 +231,33 @@ fn show_byte(asked: Asked, set: u32, at: u32, byte: u8, stored: u8, offset: u32)
     bench_refuse::end(asked, &mut out)
 }
 
+// Where in the set the byte at an address is stored.
+fn offset_of(board: Board, set_rows: &[u32], rom_rows: &[u32], at: u32, cs_set: SdrrCsSet) -> u32 {
+    let pins = board.pins;
+    let m = info::mangle_address(pins, board.served, set_rows, rom_rows, at, cs_set);
+    m.value
+}
+
+fn byte_at(
+    asked: Asked,
+    image: &[u8],
+    board: Board,
+    set_rows: &[u32],
+    rom_rows: &[u32],
+    set: u32,
+    at: u32,
+    cs_set: SdrrCsSet,
+) -> u8 {
+    let address = SdrrAddress::Logical(at, cs_set);
+    let r = byte_reads::read_rom_byte_demangled(image, board, set_rows, rom_rows, set, address, 0);
+    if r.number != 0 {
+        return bench_refuse::part(asked, r.number, b", set %d, address %x", &[set, at]);
+    }
+    let s = byte_reads::read_rom_byte_raw(image, board, set_rows, rom_rows, set, address, 0);
+    let offset = offset_of(board, set_rows, rom_rows, at, cs_set);
+    show_byte(asked, set, at, r.byte, s.byte, offset)
+}
+
 pub fn byte(
     asked: Asked,
     image: &[u8],
@@ -227,13 +272,5 @@ pub fn byte(
     if number != 0 {
         return bench_refuse::part(asked, number, b", set %d", &[set]);
     }
-    let address = SdrrAddress::Logical(at, cs_set);
-    let r = byte_reads::read_rom_byte_demangled(image, board, set_rows, rom_rows, set, address, 0);
-    if r.number != 0 {
-        return bench_refuse::part(asked, r.number, b", set %d, address %x", &[set, at]);
-    }
-    let s = byte_reads::read_rom_byte_raw(image, board, set_rows, rom_rows, set, address, 0);
-    let pins = board.pins;
-    let m = info::mangle_address(pins, board.served, set_rows, rom_rows, at, cs_set);
-    show_byte(asked, set, at, r.byte, s.byte, m.value)
+    byte_at(asked, image, board, set_rows, rom_rows, set, at, cs_set)
 }

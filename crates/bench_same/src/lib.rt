@@ -22,19 +22,12 @@ fn first_same(served: u32, set_rows: &[u32], rom_rows: &[u32], set: u32) -> u32 
 }
 
 fn fact(out: &mut Out, first: u32, set: u32, names: u32, bytes: u32) {
-    if bench_out::is_script(out) {
-        bench_form::form(
-            out,
-            b"set.%d.same_as %d\nset.%d.same_as.names %h\nset.%d.same_as.bytes %h\n",
-            &[set, first, set, names, set, bytes],
-        );
-    } else {
-        bench_form::form(
-            out,
-            b"sets %d and %d are the same (names %e; stored bytes %e)\n",
-            &[first, set, names, bytes],
-        );
-    }
+    told(
+        out,
+        b"%_sets %d and %d are the same (names %e; stored bytes %_%e)\n|\
+        set.%d.same_as %d\nset.%d.same_as.names %h\nset.%d.same_as.bytes %h\n",
+        &[set, first, set, names, set, bytes],
+    );
 }
 
 // A set, and the first that it is the same as. Whether there is one. base: the address of the dump's first byte.

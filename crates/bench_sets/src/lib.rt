@@ -1,5 +1,6 @@
 // The sets and their ROMs, for a person or for a script.
 use bench_form::form;
+use bench_form::item;
 use bench_form::told;
 use bench_out::Out;
 use rows::RomWord;
@@ -8,15 +9,11 @@ use sets_item::SetsItem;
 use text::Text;
 
 fn no_name(out: &mut Out, set: u32, k: u32, n: u32) {
-    if bench_out::is_script(out) {
-        form(
-            out,
-            b"set.%d.rom.%d.name.number %d\nset.%d.rom.%d.name.reason %m\n",
-            &[set, k, n, set, k, n],
-        );
-    } else {
-        form(out, b"no name (%d: %m)\n", &[n, n]);
-    }
+    told(
+        out,
+        b"no name (%_%_%d: %_%_%m)\n|set.%d.rom.%d.name.number %d\nset.%d.rom.%d.name.reason %m\n",
+        &[set, k, n, set, k, n],
+    );
 }
 
 fn rom_name(out: &mut Out, image: &[u8], set: u32, k: u32, name: Text) {
@@ -38,24 +35,23 @@ fn selects(out: &mut Out, rom_rows: &[u32], row: u32, set: u32, k: u32) {
     let c1 = rows::rom_word(rom_rows, row, RomWord::Cs1);
     let c2 = rows::rom_word(rom_rows, row, RomWord::Cs2);
     let c3 = rows::rom_word(rom_rows, row, RomWord::Cs3);
-    if bench_out::is_script(out) {
-        form(
-            out,
-            b"set.%d.rom.%d.cs1 %a\nset.%d.rom.%d.cs2 %a\nset.%d.rom.%d.cs3 %a\n",
-            &[set, k, c1, set, k, c2, set, k, c3],
-        );
-    } else {
-        form(out, b"         CS1 %c, CS2 %c, CS3 %c\n", &[c1, c2, c3]);
-    }
+    told(
+        out,
+        b"         %_%_CS1 %c, %_%_CS2 %c, %_%_CS3 %c\n|\
+        set.%d.rom.%d.cs1 %a\nset.%d.rom.%d.cs2 %a\nset.%d.rom.%d.cs3 %a\n",
+        &[set, k, c1, set, k, c2, set, k, c3],
+    );
 }
 
 fn rom_start(out: &mut Out, rom_rows: &[u32], row: u32, set: u32, k: u32) {
     let t = rows::rom_word(rom_rows, row, RomWord::Type);
+    told(
+        out,
+        b"%_  ROM %d: %t, |set.%d.rom.%d.type %t\n",
+        &[set, k, t],
+    );
     if bench_out::is_script(out) {
-        form(out, b"set.%d.rom.%d.type %t\n", &[set, k, t]);
         selects(out, rom_rows, row, set, k);
-    } else {
-        form(out, b"  ROM %d: %t, ", &[k, t]);
     }
 }
 
@@ -185,38 +181,33 @@ fn all_sets(
     is_cut
 }
 
-// For a person, behind the label.
-fn count_line(out: &mut Out, counted: u32, accepted: bool, is_lost: bool) {
-    if base::both(accepted, is_lost) {
-        form(out, b"none can be found without metadata\n", &[]);
-    } else if accepted {
-        form(out, b"%d\n", &[counted]);
+// For a person, behind the label of sets that are accepted.
+fn count_line(out: &mut Out, counted: u32, is_lost: bool) {
+    if is_lost {
+        told(out, b"none can be found without metadata\n", &[]);
     } else {
-        form(
-            out,
-            b"                   counted %d, served none\n",
-            &[counted],
-        );
+        told(out, b"%d\n", &[counted]);
     }
 }
 
 // A refused walk keeps the count and serves none. is_lost: metadata, which lists the sets, is refused.
-pub fn count(out: &mut Out, item: SetsItem, is_lost: bool) {
-    let counted = item.rom_set_count as u32;
-    let accepted = bench_report::item(
+pub fn count(out: &mut Out, sets: SetsItem, is_lost: bool) {
+    let counted = sets.rom_set_count as u32;
+    let is_there = item(
         out,
         b"Sets               |sets.number %d\n",
-        b"refused with %d: %w\n|sets.reason %w\n",
-        item.number,
+        b"refused with %d: %w\n                   |sets.reason %w\n",
+        sets.number,
     );
-    if bench_out::is_script(out) {
-        form(
-            out,
-            b"sets.count %d\nsets.served %d\n",
-            &[counted, item.served],
-        );
+    told(
+        out,
+        b"|sets.count %d\nsets.served %d\n",
+        &[counted, sets.served],
+    );
+    if is_there {
+        count_line(out, counted, is_lost);
     } else {
-        count_line(out, counted, accepted, is_lost);
+        told(out, b"counted %d, served none\n", &[counted]);
     }
 }
 

@@ -1,7 +1,7 @@
 use Prim.Native.Nat.{_≤_, _-_}
 use borrow.Author.Needs.{needs}
-use Rattle.bench_report.proofs.commit.Statement.{statement}
-use Rattle.bench_report.proofs.commit.Tie as tie
+use Rattle.bench_header.proofs.commit.Statement.{statement}
+use Rattle.bench_header.proofs.commit.Tie as tie
 
 abbrev Inv-loop : tie.InvT-loop
 Inv-loop out₀ c i₀ out i = i ≤ 8

@@ -1,8 +1,8 @@
 use Prim.Native.Nat.{_≤_, _-_}
 use lib.ListN.{length}
 use borrow.Author.Needs.{needs}
-use Rattle.bench_report.proofs.pin_list.Statement.{statement}
-use Rattle.bench_report.proofs.pin_list.Tie as tie
+use Rattle.bench_pins.proofs.pin_list.Statement.{statement}
+use Rattle.bench_pins.proofs.pin_list.Tie as tie
 
 abbrev Inv-loop : tie.InvT-loop
 Inv-loop out₀ start pins i₀ out i = i ≤ length pins

@@ -36,15 +36,17 @@ NO_NAME = struct.pack("<I", make.NONE)
 def cases():
     """What the board is, its bytes, and for each set that is the same as an earlier one: that one, and what names and bytes show."""
     whole = make.RP2350.pins.set_data(several(["a", "b", "c"])[0])
+    genoa, jib = (make.RP2350.pins.set_data(one_rom(name)[0]) for name in ("genoa.bin", "jib"))
+    far = struct.pack("<I", make.RP2350.base + 0x100000)
     return [
         ("the sample", changed(), {3: (0, EQUAL, EQUAL), 4: (1, DIFFER, DIFFER)}),
         ("a byte of set 3 changed", changed_set(3, 2047), {3: (0, EQUAL, DIFFER), 4: (1, DIFFER, DIFFER)}),
         ("the first byte of set 4 changed", changed_set(4, 0), {3: (0, EQUAL, EQUAL), 4: (1, DIFFER, DIFFER)}),
-        ("equal bytes under two names", image_of(one_rom("genoa.bin", "jib.bin"), (1, 0, make.RP2350.pins.set_data(one_rom("genoa.bin")[0]))), {1: (0, DIFFER, EQUAL)}),
-        ("a name that starts the other", image_of(one_rom("jib", "jib.bin"), (1, 0, make.RP2350.pins.set_data(one_rom("jib")[0]))), {1: (0, DIFFER, EQUAL)}),
+        ("equal bytes under two names", image_of(one_rom("genoa.bin", "jib.bin"), (1, 0, genoa)), {1: (0, DIFFER, EQUAL)}),
+        ("a name that starts the other", image_of(one_rom("jib", "jib.bin"), (1, 0, jib)), {1: (0, DIFFER, EQUAL)}),
         ("no name, and one", image_of(one_rom("jib", "jib"), (("rom", 1, 0), 4, NO_NAME)), {1: (0, DIFFER, EQUAL)}),
         ("no names", image_of(one_rom("jib", "jib"), (("rom", 0, 0), 4, NO_NAME), (("rom", 1, 0), 4, NO_NAME)), {1: (0, EQUAL, EQUAL)}),
-        ("bytes past the dump's end", image_of(one_rom("jib", "jib"), (("set", 1), 0, struct.pack("<I", make.RP2350.base + 0x100000))), {1: (0, EQUAL, NOT_HELD)}),
+        ("bytes past the dump's end", image_of(one_rom("jib", "jib"), (("set", 1), 0, far)), {1: (0, EQUAL, NOT_HELD)}),
         ("three, by the first", image_of(one_rom("jib", "jib", "genoa")), {1: (0, EQUAL, EQUAL), 2: (0, DIFFER, DIFFER)}),
         ("several ROMs", image_of(several(["a", "b", "c"], ["a", "b", "c"])), {1: (0, EQUAL, EQUAL)}),
         ("the last of several names", image_of(several(["a", "b", "c"], ["a", "b", "d"]), (1, 0, whole)), {1: (0, DIFFER, EQUAL)}),

@@ -2,7 +2,7 @@
 import os
 import subprocess
 
-from tools import PROGRAM, TOP, expect, same
+from tools import TOP, expect, same
 
 WRAPPER = os.path.join(TOP, "bench")
 SAMPLE = "samples/rp2350.img"
@@ -36,6 +36,3 @@ def refused(got, status, number, table, words, what):
         return
     same((code, out), (status, b""), what)
     expect(err.startswith(b"bench: ") and err.decode().endswith(table[number] + "\n"), "%s: %r" % (what, err))
-
-
-__all__ = ["PROGRAM", "SAMPLE", "WRAPPER", "call", "expect", "is_bytes", "refused", "same", "without"]

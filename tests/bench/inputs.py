@@ -3,8 +3,8 @@ import os
 import shutil
 import subprocess
 
-from calls import PROGRAM, SAMPLE, call, expect, refused, same, without
-from tools import STORED, TOP, put, words_of_numbers
+from calls import SAMPLE, call, refused, without
+from tools import PROGRAM, STORED, TOP, expect, put, same, words_of_numbers
 
 NOBODY = 65534
 

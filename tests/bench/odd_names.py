@@ -2,9 +2,9 @@
 import os
 import shutil
 
-from calls import SAMPLE, call, same
+from calls import SAMPLE, call
 from made import one_rom_sets
-from tools import TOP, facts_of, put, run, words_of_numbers
+from tools import TOP, facts_of, put, run, same, words_of_numbers
 
 # A name as UTF-8 has it, and how it is shown.
 NAMES = [

@@ -1,6 +1,7 @@
 """Where the answer goes: full disks, closed outputs, readers that go away or are slow. What was not written whole says so, with status 1."""
 import fcntl
 import os
+import select
 import signal
 import socket
 import subprocess
@@ -8,8 +9,9 @@ import threading
 import time
 
 import make
-from calls import PROGRAM, SAMPLE, WRAPPER, call, expect, same, without
-from tools import put, words_of_numbers
+from calls import SAMPLE, WRAPPER, call, without
+from made import board_of
+from tools import PROGRAM, expect, put, same, words_of_numbers
 
 # What can be asked for, and what a person is told that it is about.
 ANSWERS = [
@@ -32,7 +34,8 @@ def not_written(code, err, words, table, what):
     if "--machine" in words:
         same(err.decode(), "refused 115\nreason %s\n" % table[115], "bench %r, %s" % (words, what))
     else:
-        expect(err.decode().startswith("bench: ") and err.decode().endswith(table[115] + "\n") and err.count(b"\n") == 1, "bench %r, %s: %r" % (words, what, err))
+        is_said = err.startswith(b"bench: ") and err.decode().endswith(table[115] + "\n") and err.count(b"\n") == 1
+        expect(is_said, "bench %r, %s: %r" % (words, what, err))
 
 
 def full(at):
@@ -142,21 +145,56 @@ def slow(at):
                 expect(ends == small_socket, "bench %r, slow reader: a pipe is not waited for" % (words,))
 
 
+def full_pipe():
+    """Both ends of a pipe that is full: who writes to it waits."""
+    reader, writer = os.pipe()
+    fcntl.fcntl(writer, fcntl.F_SETPIPE_SZ, PIPE_BYTES)
+    os.write(writer, bytes(PIPE_BYTES))
+    return reader, writer
+
+
+def at_once(at, name, wanted):
+    """The bytes are there before the program ends: it waits to say `ok` on standard error."""
+    out, to = os.pipe()
+    other, error = full_pipe()
+    with subprocess.Popen([WRAPPER, name, "raw", "0", "--machine"], cwd=at, stdin=subprocess.DEVNULL, stdout=to, stderr=error) as bench:
+        os.close(to)
+        os.close(error)
+        got = b""
+        while len(got) < len(wanted) and select.select([out], [], [], 5)[0]:
+            got += os.read(out, len(wanted))
+        is_running = bench.poll() is None
+        said = b""
+        while part := os.read(other, PIPE_BYTES):
+            said += part
+        code = bench.wait(timeout=60)
+    same((got, is_running), (wanted, True), "bytes come at once")
+    same((code, said[PIPE_BYTES:]), (0, b"ok\nbytes %d\n" % len(wanted)), "and then it ends")
+    os.close(out)
+    os.close(other)
+
+
+def board_of_bytes(data):
+    """A board with one set, of these bytes."""
+    board = board_of([make.RomSet([make.Rom("sheet.bin", make.ROM_2316)], len(data), 1)])
+    image = board.image()
+    image.write(int.from_bytes(image.bytes[board.at["set", 0] - board.base :][:4], "little"), data)
+    return bytes(image.bytes)
+
+
 def untouched(at):
-    """A set's bytes go through a pipe as they are stored, and at once: the reader has the first of them while the program still runs."""
+    """A set's bytes go through a pipe as they are stored, and at once."""
     for board, name in ((make.RP2350, SAMPLE), (make.MULTI, "samples/multi.img")):
         for i, s in enumerate(board.sets):
             same(call(at, name, "raw", str(i)), (0, board.pins.set_data(s), b""), "raw %d of %s" % (i, name))
+    at_once(at, SAMPLE, make.RP2350.pins.set_data(make.RP2350.sets[0]))
     data = bytes(i * 7 % 256 for i in range(65536))
-    board = make.Board(*(getattr(make.RP2350, n) for n in "base version line storage mhz flags counting date revision extra pins".split()),
-                       [make.RomSet([make.Rom("sheet.bin", make.ROM_2316)], len(data), 1)])
-    image = board.image()
-    image.write(int.from_bytes(image.bytes[board.at["set", 0] - board.base:][:4], "little"), data)
-    name = put(at, "sheet.img", image.bytes)
+    name = put(at, "sheet.img", board_of_bytes(data))
     for program in (WRAPPER, PROGRAM):
-        with subprocess.Popen([program, name, "raw", "0"], cwd=at, stdin=subprocess.DEVNULL, stdout=subprocess.PIPE, stderr=subprocess.PIPE) as bench:
-            fcntl.fcntl(bench.stdout.fileno(), fcntl.F_SETPIPE_SZ, PIPE_BYTES)
-            front = bench.stdout.read(2 * PIPE_BYTES)
-            expect(bench.poll() is None, "the bytes are kept back until the program ended")
-            same(front + bench.stdout.read(), data, "65,536 bytes through a small pipe")
-            same((bench.wait(timeout=60), bench.stderr.read()), (0, b""), "raw through a small pipe")
+        out, to = os.pipe()
+        fcntl.fcntl(to, fcntl.F_SETPIPE_SZ, PIPE_BYTES)
+        with subprocess.Popen([program, name, "raw", "0"], cwd=at, stdin=subprocess.DEVNULL, stdout=to, stderr=subprocess.PIPE) as bench:
+            os.close(to)
+            with open(out, "rb") as reader:
+                got = reader.read(), bench.stderr.read(), bench.wait(timeout=60)
+        same(got, (data, b"", 0), "65,536 bytes through a small pipe")

@@ -1,8 +1,8 @@
 """The exit status of ./bench in every form: 0 for an answer, 1 for a refusal, 2 for words that are not understood."""
 import resource
 
-from calls import PROGRAM, SAMPLE, WRAPPER, call, expect, refused, same
-from tools import words_of_numbers
+from calls import SAMPLE, WRAPPER, call, refused
+from tools import PROGRAM, expect, same, words_of_numbers
 
 LONG = "x" * 5000
 

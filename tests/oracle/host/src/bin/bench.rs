@@ -291,16 +291,18 @@ fn data(bench: &Bench) {
     rust(&mut theirs);
     assert!(ours == theirs, "both read alike");
     const TIMES: usize = 16;
+    // One buffer for both: how fast it is filled depends on where it lies.
+    let to = std::cell::RefCell::new(ours);
     let least = bench.turns(
         TIMES,
         || {
             for _ in 0..TIMES {
-                here(black_box(&mut ours));
+                here(black_box(&mut to.borrow_mut()));
             }
         },
         || {
             for _ in 0..TIMES {
-                rust(black_box(&mut theirs));
+                rust(black_box(&mut to.borrow_mut()));
             }
         },
     );

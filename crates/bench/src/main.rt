@@ -72,67 +72,17 @@ fn report(
     bench_refuse::end(how, &mut out)
 }
 
-fn bytes(request: Request, image: &[u8], board: Board, set_rows: &[u32], rom_rows: &[u32]) -> u8 {
-    let how = asked(request);
-    let set = request.set;
-    if request.command == bench_args::RAW {
-        return bench_reads::raw(how, image, board, set_rows, set);
-    }
-    let at = request.address;
-    let cs_set = bench_args::levels::cs_set(request.levels);
-    if request.command == bench_args::READ {
-        return bench_reads::read(how, image, board, set_rows, rom_rows, set, cs_set);
-    }
-    bench_reads::byte(how, image, board, set_rows, rom_rows, set, at, cs_set)
-}
-
-fn answer(
-    request: Request,
-    image: &[u8],
-    info: SdrrInfo,
-    set_rows: &[u32],
-    rom_rows: &[u32],
-) -> u8 {
-    let settings = bench_args::settings(request);
-    let board = sdrr_info::board(settings, info);
-    if request.command == bench_args::REPORT {
-        let base = bench_rows::base_of(board);
-        return report(asked(request), image, base, info, set_rows, rom_rows);
-    }
-    bytes(request, image, board, set_rows, rom_rows)
-}
-
-// An empty file is refused by the library with 2; for a person there are clearer words. A file that is no dump but holds one has words of its own.
-fn opening_number(machine: bool, number: u8, image: &[u8]) -> u8 {
-    if image.len() == 0 {
-        return if machine { number } else { 114 };
-    }
-    let form = bench_file::form_number(image);
-    if form != 0 {
-        return form;
-    }
-    number
-}
-
-// Here 2 is about the header.
-fn refused_opening(how: Asked, number: u8, image: &[u8]) -> u8 {
-    let n = opening_number(how.machine, number, image);
-    if n == 2 {
-        return bench_refuse::part(how, n, b", info header", &[]);
-    }
-    bench_refuse::part(how, n, b"", &[])
-}
-
 fn open(request: Request, image: &[u8]) -> u8 {
     let mut set_rows = bench_rows::set_space();
     let mut rom_rows = bench_rows::rom_space();
     let settings = bench_args::settings(request);
     let opening = fw_parser::parse_flash(image, settings, &mut set_rows, &mut rom_rows);
     if opening.number != 0 {
-        return refused_opening(asked(request), opening.number, image);
+        return bench_refuse::opening(asked(request), opening.number, image);
     }
     let info = opening.info;
-    answer(request, image, info, &set_rows, &rom_rows)
+    let base = bench_rows::base_of(sdrr_info::board(settings, info));
+    report(asked(request), image, base, info, &set_rows, &rom_rows)
 }
 
 fn run(request: Request) -> u8 {

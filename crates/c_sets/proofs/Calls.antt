@@ -2,7 +2,7 @@
 -- Assumes nothing.
 use Prim.Native.Nat.{ℕ}
 use mathlib.Core.Path.{_≡_, ap}
-use Rattle.info.specs.declared.Valued.{Valued}
+use Rattle.set_data.specs.declared.Valued.{Valued}
 use Rattle.c_board.specs.Value.{valueAfter}
 use Rattle.c_board.specs.Laws.{value-refused, value-given}
 

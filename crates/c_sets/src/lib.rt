@@ -1,7 +1,7 @@
 // A set's size, and whether two are the same, as C and Rust ask: the answer in a lent word.
 ghost use mathlib.Core.Path.{_≡_};
-ghost use Rattle.info.specs.Lent.{sizeCall};
-ghost use Rattle.info.specs.Same.{sameSet};
+ghost use Rattle.set_data.specs.Data.{sizeCall};
+ghost use Rattle.same_set.specs.Same.{sameSet};
 ghost use Rattle.c_board.specs.Value.{valueAfter};
 
 pub fn size_call(served: u32, set_rows: &[u32], set: u32, value: &mut u32) -> u32

@@ -1,3 +1,4 @@
 pub mod Like
 pub mod History
 pub mod Steps
+pub mod Calls

@@ -15,7 +15,6 @@ use Rattle.mangle.specs.declared.Mangled.{Mangled}
 use Rattle.demangle.specs.declared.Demangled.{Demangled}
 use Rattle.mangle.specs.Mangle.{mangleCore}
 use Rattle.demangle.specs.Demangle.{demangle}
-use Rattle.info.specs.declared.Valued.{Valued}
 
 -- ---- mangling and demangling on a board
 
@@ -36,14 +35,6 @@ demangledBy number dataPins byte = pick (not (eqb number 0)) (record { number = 
 
 unfoldable pub demangleByte : BoardPins → ℕ → Demangled
 demangleByte pins byte = demangledBy (pins .number) (pins .«data») byte
-
--- ---- size
-
-abbrev pub unvalued : ℕ → Valued
-unvalued n = record { number = n; value = 0 }
-
-unfoldable pub sizeCall : (served : ℕ) → List ℕ → ℕ → Valued
-sizeCall served sets i = pick (eqb (setNumber served sets i) 0) (record { number = 0; value = sizeOf sets i }) (unvalued (setNumber served sets i))
 
 -- ---- all that later calls look at
 

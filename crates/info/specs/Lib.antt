@@ -1,4 +1,3 @@
 pub mod Lent
 pub mod Reads
-pub mod Same
 pub mod Laws

@@ -6,29 +6,16 @@ use lib.Dec.{ltb, eqb}
 use lib.ListN.{getD}
 use Rattle.base.specs.Choice.{pick}
 use Rattle.window.specs.Window.{baseAfter, beyondWindow}
-use Rattle.prog.specs.Prog.{Prog, done, fetch, mapP, run}
+use Rattle.prog.specs.Prog.{Prog, done, mapP, run}
 use Rattle.types.specs.declared.SdrrCsSet.{SdrrCsSet}
 use Rattle.mangle.specs.declared.Mangled.{Mangled}
 use Rattle.demangle.specs.declared.Demangled.{Demangled}
 use Rattle.info.specs.declared.SdrrAddress.{SdrrAddress}
-use Rattle.info.specs.Lent.{Lent, setNumber, sizeOf, dataPointer, mangleAddress, demangleByte}
+pub use Rattle.set_data.specs.Data.{Bytes, noBytes}
+unfoldable pub use Rattle.set_data.specs.Data.{dataP}
+use Rattle.info.specs.Lent.{Lent, mangleAddress, demangleByte}
 
--- ---- ROM data, the count, demangling: three definitions in a row
-
--- a number, 0 where accepted, and the bytes
-pub record Bytes : Type 0 where
-  pub number : ℕ
-  pub bytes : List ℕ
-
-abbrev pub noBytes : ℕ → Bytes
-noBytes n = record { number = n; bytes = [] }
-
--- 80: no such set. 4: its row. 81: offset plus length above set size. 2: ended.
-unfoldable pub dataP : ℕ → (served : ℕ) → List ℕ → ℕ → ℕ → ℕ → Prog Bytes
-dataP base served sets set offset n =
-    pick (not (eqb (setNumber served sets set) 0)) (done (noBytes (setNumber served sets set)))
-    (pick (ltb (sizeOf sets set) (offset + n)) (done (noBytes 81))
-    (fetch base (dataPointer sets set + offset) n (noBytes 2) λ bs. done (record { number = 0; bytes = bs })))
+-- ---- behind the bytes that ROM data gives (set_data/Data): the count, demangling
 
 -- 82: the served count would pass 4,294,967,295
 unfoldable pub countNumber : ℕ → ℕ → ℕ

@@ -13,12 +13,6 @@ pub enum SdrrAddress {
     Logical(u32, SdrrCsSet),
 }
 
-// 0 and a value, or a refusal's number and 0.
-pub struct Valued {
-    pub number: u8,
-    pub value: u32,
-}
-
 fn unmangled_by(number: u8) -> Mangled
     ensures { λ r. ⌜ r ≡ unmangled number ⌝ }
 {

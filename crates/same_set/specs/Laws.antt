@@ -12,8 +12,8 @@ use lib.Seq.{drop-cons, drop-drop}
 use borrow.Author.Tests.{ltb-false, lt-ltb, le-ltb, le-leb, lt-leb, eq-eqb, ne-eqb}
 use Rattle.base.specs.Laws.{clash}
 use Rattle.rows.specs.LentRows.{romWidth, hasSetRow, sizeOf, firstRom, romCount, serveOf}
-use Rattle.info.specs.Lent.{unvalued}
-use Rattle.info.specs.Same.{typesIn, types, anyAbove33, badSet, compared, equal, sameSet}
+use Rattle.set_data.specs.Data.{unvalued}
+use Rattle.same_set.specs.Same.{typesIn, types, anyAbove33, badSet, compared, equal, sameSet}
 
 -- ---- the types of ROM rows, one by one
 

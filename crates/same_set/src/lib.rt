@@ -1,13 +1,13 @@
 // Same set (document 01; the Rust has no such call): by the rows as lent.
-use info::Valued;
 use rows::SetWord;
+use set_data::Valued;
 ghost use mathlib.Core.Path.{_≡_};
 ghost use mathlib.Core.Bool.{false};
 ghost use Prim.Native.Nat.{_*_, _≤_};
 ghost use lib.ListN.{length, drop};
 ghost use Rattle.rows.specs.LentRows.{romWidth};
-ghost use Rattle.info.specs.Lent.{unvalued};
-ghost use Rattle.info.specs.Same.{typesIn, anyAbove33, badSet, compared, equal, sameSet};
+ghost use Rattle.set_data.specs.Data.{unvalued};
+ghost use Rattle.same_set.specs.Same.{typesIn, anyAbove33, badSet, compared, equal, sameSet};
 
 // The words from a ROM row on; none where it lies past their end.
 fn from_row(rom_rows: &[u32], row: u32) -> &[u32]

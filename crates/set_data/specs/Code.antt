@@ -5,7 +5,7 @@ use mathlib.Core.List.{List}
 use lib.Dec.{ltb, eqb}
 use Rattle.base.specs.Choice.{pick}
 use Rattle.window.specs.Window.{canRead}
-use Rattle.info.specs.Lent.{setNumber, dataPointer, sizeOf}
+use Rattle.rows.specs.LentRows.{setNumber, dataPointer, sizeOf}
 use Rattle.set_data.specs.declared.SetData.{SetData}
 use Rattle.set_data.specs.declared.Found.{Found}
 

@@ -10,12 +10,12 @@ use lib.ListN.{length, take, drop}
 use borrow.Author.Tests.{ltb-false, lt-ltb, le-ltb, eqb-false, eq-eqb, ne-eqb}
 use Rattle.base.specs.Laws.{cases}
 use Rattle.base.specs.Choice.{pick}
-use Rattle.window.specs.Window.{canRead, baseAfter, beyondWindow}
+use Rattle.window.specs.Window.{canRead}
 use Rattle.window.specs.Laws.{Inside, true-inside}
 use Rattle.prog.specs.Prog.{done, fetch, run}
-use Rattle.prog.specs.Laws.Run.{run-done, run-failed, run-got, run-map}
-use Rattle.info.specs.Lent.{Lent, setNumber, dataPointer, sizeOf, unvalued, sizeCall}
-use Rattle.info.specs.Reads.{Bytes, noBytes, dataP, RomRead, storedP, finished, readP, Reply, readReply, romRead}
+use Rattle.prog.specs.Laws.Run.{run-done, run-failed, run-got}
+use Rattle.rows.specs.LentRows.{setNumber, dataPointer, sizeOf}
+use Rattle.set_data.specs.Data.{unvalued, sizeCall, Bytes, noBytes, dataP}
 use Rattle.set_data.specs.declared.SetData.{SetData}
 use Rattle.set_data.specs.declared.Found.{Found}
 use Rattle.set_data.specs.Code.{setData, notFound, foundOf}
@@ -76,10 +76,6 @@ module _ (x : List ℕ) (base : ℕ) (d : SetData) (offset n : ℕ) where
   pub stands-inside : (f : Found) → Stands f → f .at + n ≤ length x
   stands-inside f s = let i = s .readable in omega (arith, s .starts)
 
--- where the set's bytes from an offset on stand in the image
-abbrev pub place : (flashBase cs0Base : ℕ) → Lent → ℕ → ℕ → ℕ
-place flashBase cs0Base l set offset = dataPointer (l .setWords) set + offset - baseAfter flashBase cs0Base (l .line)
-
 -- ---- ROM data
 
 -- the bytes that are found
@@ -104,19 +100,3 @@ data-found x base served sets set offset n = go (setNumber served sets set) (ltb
         (λ j. rw j (run-got x base a n (noBytes 2) _ j ∙ run-done x _))
         (λ j. rw j (run-failed x base a n (noBytes 2) _ j))))))
         (λ h. rw (h, h) (run-done x (noBytes k)))
-
--- ---- a call
-
-abbrev pub refusedReply : ℕ → ℕ → Reply
-refusedReply n count = record { number = n; bytes = []; count = count }
-
-module _ (flashBase cs0Base : ℕ) (l : Lent) (count : ℕ) (x : List ℕ) where
-  pub read-beyond : (r : RomRead) → beyondWindow flashBase cs0Base x ≡ true → romRead flashBase cs0Base l count r x ≡ refusedReply 1 count
-  unfolding romRead
-  read-beyond r e = rw e
-
-  pub read-within : (r : RomRead) → beyondWindow flashBase cs0Base x ≡ false
-      → romRead flashBase cs0Base l count r x ≡ readReply count r (finished l count r (run (storedP (baseAfter flashBase cs0Base (l .line)) l r) x))
-  unfolding romRead readP
-  read-within r e = rw e (ap (readReply count r) (run-map x (finished l count r) (storedP (baseAfter flashBase cs0Base (l .line)) l r)))
-  -- ROM data as the code has found it: the base in force, what it needs of the set, and where the bytes are

@@ -1,10 +1,16 @@
 // What a read needs of a set, and where its bytes stand in the image (info.rs `get_rom_set_size`, and the first half of the reads).
 // Goes by the report and rows as lent.
-use info::Valued;
 use rows::SetWord;
 ghost use mathlib.Core.Path.{_≡_};
-ghost use Rattle.info.specs.Lent.{setNumber, sizeCall};
+ghost use Rattle.rows.specs.LentRows.{setNumber};
+ghost use Rattle.set_data.specs.Data.{sizeCall};
 ghost use Rattle.set_data.specs.Code.{setData, notFound, foundOf};
+
+// 0 and a value, or a refusal's number and 0.
+pub struct Valued {
+    pub number: u8,
+    pub value: u32,
+}
 
 // What a read needs of a set: 80, 4 or 0, and of its row the data pointer and the size.
 pub struct SetData {

@@ -12,7 +12,7 @@ use Rattle.info.specs.declared.SdrrAddress.{SdrrAddress}
 use Rattle.info.specs.Lent.{Lent, demangleByte}
 use Rattle.info.specs.Reads.{byte, physical, romRead}
 use Rattle.set_data.specs.Code.{setData}
-use Rattle.set_data.specs.Laws.{place, read-beyond}
+use Rattle.info.specs.Laws.Calls.{place, read-beyond}
 use Rattle.byte_reads.specs.declared.ByteRead.{ByteRead}
 use Rattle.byte_reads.specs.Calls.{byteOf}
 use Rattle.byte_reads.specs.Code.{storedByte, shownFrom}

@@ -22,7 +22,8 @@ use Rattle.info.specs.Reads.{Bytes, noBytes, countNumber, shownByte, byte, phys
 use Rattle.set_data.specs.declared.SetData.{SetData}
 use Rattle.set_data.specs.declared.Found.{Found}
 use Rattle.set_data.specs.Code.{setData, foundOf}
-use Rattle.set_data.specs.Laws.{found-stands, bytesAt, data-found, read-beyond, read-within}
+use Rattle.info.specs.Laws.Calls.{read-beyond, read-within}
+use Rattle.set_data.specs.Laws.{found-stands, bytesAt, data-found}
 use Rattle.byte_reads.specs.declared.ByteRead.{ByteRead}
 use Rattle.byte_reads.specs.Calls.{byteOf}
 use Rattle.byte_reads.specs.Code.{noByte, storedByte, byteAt, physicalBy, shownFrom}

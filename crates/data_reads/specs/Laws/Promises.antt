@@ -12,7 +12,8 @@ use Rattle.info.specs.Lent.{Lent, lentBy, sizeOf}
 use Rattle.info.specs.Reads.{range, romRead, bufferLeft, storedP, finished, readP}
 use Rattle.board.specs.declared.Board.{Board}
 use Rattle.set_data.specs.Code.{setData}
-use Rattle.set_data.specs.Laws.{place, stands-inside}
+use Rattle.info.specs.Laws.Calls.{place}
+use Rattle.set_data.specs.Laws.{stands-inside}
 use Rattle.data_reads.specs.Code.{placedOf}
 use Rattle.data_reads.specs.Laws.Steps.{placed-stands, data-accepted}
 

@@ -15,7 +15,8 @@ use Rattle.info.specs.Reads.{countNumber, range, storedP, finished, Reply, read
 use Rattle.set_data.specs.declared.SetData.{SetData}
 use Rattle.set_data.specs.declared.Found.{Found}
 use Rattle.set_data.specs.Code.{setData, notFound, foundOf}
-use Rattle.set_data.specs.Laws.{Stands, found-stands, stands-inside, bytesAt, data-found, refusedReply, read-beyond, read-within}
+use Rattle.info.specs.Laws.Calls.{refusedReply, read-beyond, read-within}
+use Rattle.set_data.specs.Laws.{Stands, found-stands, stands-inside, bytesAt, data-found}
 use Rattle.data_reads.specs.Code.{placedOf}
 
 -- a refused call leaves the buffer as it was

@@ -3,7 +3,7 @@ use native.Mathlib.Omega.{arith}
 use mathlib.Core.Path.{_≡_, refl, _∙_}
 use lib.ListN.{length, drop}
 use Rattle.rows.specs.LentRows.{romWidth}
-use Rattle.info.specs.Same.{typesIn, anyAbove33}
+use Rattle.same_set.specs.Same.{typesIn, anyAbove33}
 use Rattle.same_set.specs.Laws.{above-found, above-next, above-none}
 use Rattle.same_set.proofs.any_above_33.Statement.{statement}
 use Rattle.same_set.proofs.any_above_33.Tie as tie

@@ -3,7 +3,7 @@ use native.Mathlib.Omega.{arith}
 use mathlib.Core.Path.{_≡_, refl, _∙_}
 use lib.ListN.{length, drop}
 use Rattle.rows.specs.LentRows.{romWidth}
-use Rattle.info.specs.Same.{typesIn, equal}
+use Rattle.same_set.specs.Same.{typesIn, equal}
 use Rattle.same_set.specs.Laws.{types-differ, types-next, types-same}
 use Rattle.same_set.proofs.same_types.Statement.{statement}
 use Rattle.same_set.proofs.same_types.Tie as tie

@@ -5,9 +5,9 @@ use mathlib.Core.List.{List, [], _∷_}
 use lib.Dec.{ltb, leb, eqb}
 use lib.ListN.{length, drop}
 use Rattle.base.specs.Choice.{pick}
-use Rattle.rows.specs.LentRows.{romWidth}
-use Rattle.info.specs.declared.Valued.{Valued}
-use Rattle.info.specs.Lent.{hasSetRow, firstRom, romCount, sizeOf, serveOf, unvalued}
+use Rattle.rows.specs.LentRows.{romWidth, hasSetRow, firstRom, romCount, sizeOf, serveOf}
+use Rattle.set_data.specs.declared.Valued.{Valued}
+use Rattle.set_data.specs.Data.{unvalued}
 
 -- the types of the first n ROM rows of some words, as far as these go
 unfoldable pub typesIn : List ℕ → ℕ → List ℕ

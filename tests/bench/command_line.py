@@ -4,14 +4,14 @@ import subprocess
 
 import make
 from made import changed
-from tools import PROGRAM, expect, put, run, same, words_of_numbers
+from tools import PROGRAM, expect, program_of, put, run, same, words_of_numbers
 
 FILE = "samples/rp2350.img"
 
 
 def given(at, data, *words):
     """As run, with bytes on standard input that come through a pipe."""
-    done = subprocess.run([PROGRAM, *words], cwd=at, input=data, capture_output=True, timeout=60)
+    done = subprocess.run([program_of(at, words), *words], cwd=at, input=data, capture_output=True, timeout=60)
     return done.stdout, done.stderr
 
 

@@ -4,7 +4,7 @@ import shutil
 import subprocess
 
 from calls import SAMPLE, call, refused, without
-from tools import PROGRAM, STORED, TOP, expect, put, same, words_of_numbers
+from tools import BYTES, PROGRAM, STORED, TOP, expect, put, same, words_of_numbers
 
 NOBODY = 65534
 
@@ -50,16 +50,16 @@ def as_nobody():
 def unreadable(at):
     """110 and 111, in their words."""
     table = words_of_numbers()
-    # Root may read every file: the program is run by another user, who needs a copy of it.
+    # Root may read every file: the programs are run by another user, who needs copies of them.
     open_to_all = os.path.join(at, "open")
     os.mkdir(open_to_all)
-    program = shutil.copy(PROGRAM, open_to_all)
+    report, reads = shutil.copy(PROGRAM, open_to_all), shutil.copy(BYTES, open_to_all)
     shutil.copy(os.path.join(TOP, SAMPLE), os.path.join(open_to_all, "shut.img"))
     os.chmod(os.path.join(open_to_all, "shut.img"), 0)
-    for path in (at, open_to_all, program):
+    for path in (at, open_to_all, report, reads):
         os.chmod(path, 0o755)
     for words in (["shut.img"], ["shut.img", "--machine"], ["shut.img", "raw", "0"], ["shut.img", "raw", "0", "--machine"]):
-        got = call(open_to_all, *words, program=program, preexec_fn=as_nobody)
+        got = call(open_to_all, *words, program=reads if "raw" in words else report, preexec_fn=as_nobody)
         refused(got, 0, 110, table, words, "bench %r, a file that may not be read" % (words,))
     for words in (["/proc/self/mem"], ["/proc/self/mem", "--machine"], ["/proc/self/mem", "byte", "0", "0"], ["/proc/self/mem", "raw", "0", "--machine"]):
         refused(call(at, *words), 1, 111, table, words, "bench %r, a file that cannot be read" % (words,))

@@ -11,7 +11,7 @@ import time
 import make
 from calls import SAMPLE, WRAPPER, call, without
 from made import board_of
-from tools import PROGRAM, expect, put, same, words_of_numbers
+from tools import BYTES, expect, put, same, words_of_numbers
 
 # What can be asked for, and what a person is told that it is about.
 ANSWERS = [
@@ -190,7 +190,7 @@ def untouched(at):
     at_once(at, SAMPLE, make.RP2350.pins.set_data(make.RP2350.sets[0]))
     data = bytes(i * 7 % 256 for i in range(65536))
     name = put(at, "sheet.img", board_of_bytes(data))
-    for program in (WRAPPER, PROGRAM):
+    for program in (WRAPPER, BYTES):
         out, to = os.pipe()
         fcntl.fcntl(to, fcntl.F_SETPIPE_SZ, PIPE_BYTES)
         with subprocess.Popen([program, name, "raw", "0"], cwd=at, stdin=subprocess.DEVNULL, stdout=to, stderr=subprocess.PIPE) as bench:

@@ -4,7 +4,7 @@ import subprocess
 
 import make
 from made import changed, header, metadata_with, no_rom, pins_with, several
-from tools import PROGRAM, facts_of, put, refused_item, refused_whole, same, words_of_numbers
+from tools import BYTES, PROGRAM, facts_of, put, refused_item, refused_whole, same, words_of_numbers
 
 
 def refused_openings():
@@ -79,8 +79,14 @@ def numbers(at):
     refused_whole(at, 45, table[45], "made/crowded.img")
     # What can't be written is said.
     with open("/dev/full", "wb") as full:
-        done = subprocess.run([PROGRAM, "samples/rp2350.img", "raw", "0"], cwd=at, stdout=full, stderr=subprocess.PIPE, timeout=60)
+        done = subprocess.run([BYTES, "samples/rp2350.img", "raw", "0"], cwd=at, stdout=full, stderr=subprocess.PIPE, timeout=60)
     same(done.stderr.decode(), "bench: samples/rp2350.img, set 0: %s\n" % table[115], "a full device")
     with open("/dev/full", "wb") as full:
         done = subprocess.run([PROGRAM, "--machine"], cwd=at, stdout=full, stderr=subprocess.PIPE, timeout=60)
     same(done.stderr.decode(), "refused 115\nreason %s\n" % table[115], "a full device, for a script")
+    # What is another program's to answer, said of itself by each; ./bench is told by the status alone.
+    for program, words in ((PROGRAM, ["raw", "0"]), (PROGRAM, ["byte", "0", "1"]), (BYTES, []), (BYTES, ["help"])):
+        for more in ([], ["--machine"]):
+            done = subprocess.run([program, "samples/rp2350.img", *words, *more], cwd=at, capture_output=True, timeout=60)
+            said = b"refused 119\nreason %s\n" if more else b"bench: samples/rp2350.img: %s\n"
+            same(done.stdout + done.stderr, said % table[119].encode(), "%s %r %r" % (program, words, more))

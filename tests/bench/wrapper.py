@@ -14,16 +14,18 @@ echo "rt says $*"; echo "rt says it here too" >&2
 cat >/dev/null
 echo run >>"$RUNS"
 mkdir -p target/stamp target/bin
-rm -f target/stamp/bench
-cp "$PROGRAM" target/bin/bench
+rm -f "target/stamp/$2"
+cp "$PROGRAM" "target/bin/$2"
 [ -z "${SLOW-}" ] || sleep "$SLOW"
 [ -z "${EDIT-}" ] || echo more >>crates/bench/src/main.rt
 if grep -q bad crates/*/src/*; then echo "rt: bench NOT PROVED"; exit 1; fi
-for name in bench low; do cat crates/$name/src/* crates.txt | cksum >target/stamp/$name; done
+for name in "$2" low; do cat "crates/$name/src/"* crates.txt | cksum >"target/stamp/$name"; done
 """
 
-# Says its words, one in brackets each, and what it finds on standard input; ends with the status that FAKE_STATUS asks for.
+# Says its words, one in brackets each, and what it finds on standard input; ends with the status that FAKE_STATUS asks for. With FAKE_OTHER, bench
+# leaves all of that to the other program.
 PROGRAM = """#!/usr/bin/env bash
+[ -z "${FAKE_OTHER-}" ] || [ "${0##*/}" != bench ] || { printf 3 >&3; exit; }
 printf '[%s]' "$@" 2>/dev/null || failed=1
 [ -z "${FAKE_READS-}" ] || cat
 [ -z "${FAKE_WAITS-}" ] || sleep "$FAKE_WAITS"
@@ -32,7 +34,7 @@ printf '%s' "${failed-${FAKE_STATUS-0}}" >&3
 
 
 # All that the two scripts and the tests call: the machine's own rt must not be among it.
-TOOLS = "awk bash cat cksum cp date dirname find flock grep head mkdir mv readlink rm setpriv sh sha256sum sleep sort wc xargs".split()
+TOOLS = "awk bash cat cksum cp date dirname find flock grep head mkdir mv nproc readlink rm setpriv sh sha256sum sleep sort wc xargs".split()
 
 
 class Checkout:
@@ -40,9 +42,10 @@ class Checkout:
 
     def __init__(self, at):
         self.at, self.top, self.kit = at, os.path.join(at, "a checkout"), os.path.join(at, "kit")
-        for name, text in {"low/src/lib.rt": "low", "bench/src/main.rt": "main", "bench/must-fail/index.edit": "edit", "other/src/lib.rt": "other"}.items():
+        for name, text in {"low/src/lib.rt": "low", "bench/src/main.rt": "main", "bench/must-fail/index.edit": "edit", "bench_bytes/src/main.rt": "bytes",
+                           "other/src/lib.rt": "other"}.items():
             self.write(os.path.join("crates", name), text)
-        self.write("crates.txt", "low:\nother:\nbench: low io # the program\n")
+        self.write("crates.txt", "low:\nother:\nbench: low io # the program\nbench_bytes: low os\n")
         shutil.copy(os.path.join(TOP, "bench"), self.top)
         self.program = self.script(os.path.join(at, "program"), PROGRAM)
         os.mkdir(self.kit)
@@ -207,7 +210,7 @@ def passes_on(c):
     same(c.run("-", data=data, FAKE_READS="1"), (0, b"[-]" + data, [], 0), "bytes go in and out as they are")
     c.write("crates/bench/src/main.rt", "to be proved with a dump on standard input")
     same(c.run("-", data=data, FAKE_READS="1")[1], b"[-]" + data, "rt takes nothing of them")
-    for said, code in (("0", 0), ("1", 1), ("2", 2), ("", 1), ("3", 1), ("00", 1)):
+    for said, code in (("0", 0), ("1", 1), ("2", 2), ("", 1), ("4", 1), ("00", 1)):
         same(c.run("x", FAKE_STATUS=said), (code, b"[x]", [], 0), "status %r" % said)
     same(c.run("x", shell='"$0" "$@" >&-'), (1, b"", [], 0), "a closed output")
     same(c.run("x", shell='"$0" "$@" >/dev/full')[::3], (1, 0), "a full disk")
@@ -219,6 +222,23 @@ def passes_on(c):
     before = time.monotonic()
     expect(process.stdout.read(10) == b"[--status]" and time.monotonic() - before < 2, "bytes come at once")
     process.communicate(timeout=60)
+
+
+def other_program(c):
+    """What bench leaves to bench_bytes: proved when it is first asked for, with the caller's words and input, and its own status."""
+    c.write("crates/low/src/lib.rt", "for both")
+    first, second = "bench: proving 2 of 2 crates: once, some minutes", "bench: proving 1 of 2 crates: once, some minutes"
+    same(c.run("x", "raw", "0", FAKE_OTHER="1"), (0, b"[x][raw][0]", [first, second], 2), "both are proved")
+    same(c.run("x", "raw", "0", FAKE_OTHER="1"), (0, b"[x][raw][0]", [], 0), "and then run")
+    same(c.run("x"), (0, b"[x]", [], 0), "a report")
+    c.write("crates/bench_bytes/src/main.rt", "bytes again")
+    same(c.run("x"), (0, b"[x]", [], 0), "a report needs no bytes")
+    same(c.run("-", data=b"dump", FAKE_OTHER="1", FAKE_READS="1"), (0, b"[-]dump", [second], 1), "the input is the other program's")
+    for said, code in (("1", 1), ("2", 2), ("", 1), ("3", 1)):
+        same(c.run("x", FAKE_OTHER="1", FAKE_STATUS=said), (code, b"[x]", [], 0), "the other program's status %r" % said)
+    c.write("crates/bench_bytes/src/main.rt", "bad")
+    same(c.run("x", FAKE_OTHER="1")[:2], (1, b""), "a failed check of the other program")
+    c.write("crates/bench_bytes/src/main.rt", "bytes")
 
 
 def two_at_once(c):
@@ -233,5 +253,5 @@ def two_at_once(c):
 
 def wrapper(at):
     c = Checkout(os.path.join(at, "wrapper"))
-    for part in (proves_once, sees_changes, failed_check, no_kit, read_only, called_from_anywhere, passes_on, two_at_once):
+    for part in (proves_once, sees_changes, failed_check, no_kit, read_only, called_from_anywhere, passes_on, other_program, two_at_once):
         part(c)

@@ -20,7 +20,7 @@ READING = [
     ("Report", ["sets_item/Sets", "fw_parser/Opening", "fw_parser/Reply", "sdrr_info/Report"]),
     ("Pins", ["pins/Pins"]),
     ("Mangling", ["least_pin/LeastPin", "base_zero/BaseZero", "rom_rules/Rules", "input_word/Input", "demangle/Bits", "mangle/PinMap", "mangle/Mangle", "demangle/Demangle"]),
-    ("Lent rows, ROM data, same set", ["board/Board", "governing/Governing", "info/Lent", "info/Reads", "info/Same", "data_reads/Calls", "byte_reads/Calls"]),
+    ("Lent rows, ROM data, same set", ["board/Board", "set_data/Data", "governing/Governing", "info/Lent", "info/Reads", "same_set/Same", "data_reads/Calls", "byte_reads/Calls"]),
     ("Runtime", ["runtime_info/Runtime", "runtime_info/Words"]),
     ("demand 3", ["cut_short/Shown", "cut_short/ReadAfter", "cut_short/Demand3"]),
     ("the calls of C and Rust", ["c_board/Board", "c_board/Value", "c_report/Report", "c_handed/Handed", "c_open/Opening", "c_reads/Reads", "c_mangle/Board"]),

@@ -1,4 +1,4 @@
-# The program `bench` on the sample boards and on bad input. tests/bench/check.py says what each part compares.
+# The programs `bench` and `bench_bytes` on the sample boards and on bad input. tests/bench/check.py says what each part compares.
 
 # bench_part NAME
 bench_part() {
@@ -102,9 +102,10 @@ test_bench_readme_is_real() {
     bench_part readme
 }
 
-# The gate runs the program in a folder of its own, with a copy of the sample.
+# The gate runs the programs in folders of their own, with copies of the sample.
 test_bench_sample_is_the_sample() {
-    cmp crates/bench/data/samples/rp2350.img samples/rp2350.img
+    cmp crates/bench/data/samples/rp2350.img samples/rp2350.img &&
+        cmp crates/bench_bytes/data/samples/rp2350.img samples/rp2350.img
 }
 
 # The help is one screen.
@@ -117,6 +118,6 @@ test_bench_command() {
     ./bench | cmp - crates/bench/stdout &&
         (cd docs && ../bench) | cmp - crates/bench/stdout &&
         (cd samples && ../bench rp2350.img) | cmp - <(sed '1s/.*:/rp2350.img:/' crates/bench/stdout) &&
-        (cd docs && ../bench -- ../samples/rp2350.img raw 0) | cmp - <(target/bin/bench samples/rp2350.img raw 0) &&
-        (cd docs && ../bench --info-offset=512 - raw 0 <../samples/rp2350.img) | cmp - <(target/bin/bench samples/rp2350.img raw 0)
+        (cd docs && ../bench -- ../samples/rp2350.img raw 0) | cmp - <(target/bin/bench_bytes samples/rp2350.img raw 0) &&
+        (cd docs && ../bench --info-offset=512 - raw 0 <../samples/rp2350.img) | cmp - <(target/bin/bench_bytes samples/rp2350.img raw 0)
 }

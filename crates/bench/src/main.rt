@@ -1,30 +1,12 @@
-// The bench: what the flash of a One ROM board holds, for a person or a script; and the bytes of its sets. Each function that answers says the
-// status that the program ends with.
+// The bench: what the flash of a One ROM board holds, for a person or a script. Bytes of its sets are another program's, bench_bytes, so that
+// a report waits for no proof of mangling. Each function that answers says the status that the program ends with.
 mod help;
 
 use bench_args::Request;
 use bench_form::told;
 use bench_out::Out;
 use bench_refuse::Asked;
-use board::Board;
 use sdrr_info::SdrrInfo;
-ghost use mathlib.Core.Path.{_≡_};
-ghost use lib.ListN.{length};
-
-// 2 MiB. The contract gives the length alone, so that no caller's proof computes the list.
-fn image_space() -> [u8; 2097152]
-    ensures { λ r. ⌜ 2097152 ≡ length r ⌝ }
-{
-    [0; 2097152]
-}
-
-fn asked(request: Request) -> Asked {
-    Asked {
-        machine: request.machine,
-        bytes: bench_args::is_bytes(request),
-        file: request.file,
-    }
-}
 
 // The first line. The sample is no board of the caller's: it says so.
 fn heading(out: &mut Out, file: usize, length: usize) {
@@ -78,19 +60,19 @@ fn open(request: Request, image: &[u8]) -> u8 {
     let settings = bench_args::settings(request);
     let opening = fw_parser::parse_flash(image, settings, &mut set_rows, &mut rom_rows);
     if opening.number != 0 {
-        return bench_refuse::opening(asked(request), opening.number, image);
+        return bench_refuse::opening(bench_refuse::asked(request), opening.number, image);
     }
     let info = opening.info;
     let base = bench_rows::base_of(sdrr_info::board(settings, info));
-    report(asked(request), image, base, info, &set_rows, &rom_rows)
+    report(bench_refuse::asked(request), image, base, info, &set_rows, &rom_rows)
 }
 
 fn run(request: Request) -> u8 {
-    let mut image = image_space();
+    let mut image = bench_file::image_space();
     let loaded = bench_file::load(request.file, request.sample, &mut image);
     let n = loaded.length;
     if loaded.number != 0 {
-        return bench_refuse::part(asked(request), loaded.number, b"", &[]);
+        return bench_refuse::part(bench_refuse::asked(request), loaded.number, b"", &[]);
     }
     open(request, &image[..n])
 }
@@ -114,25 +96,19 @@ fn done(request: Request) -> u8 {
         return page(true);
     }
     if request.number != 0 {
-        return bench_refuse::arguments(asked(request), request.number, request.about);
+        return bench_refuse::arguments(bench_refuse::asked(request), request.number, request.about);
     }
     if request.command == bench_args::HELP {
         return page(false);
     }
+    if request.command != bench_args::REPORT {
+        return bench_refuse::other_program(request);
+    }
     run(request)
-}
-
-// The status is one digit on descriptor 3, the last that is written.
-fn tell(status: u8) {
-    let mut out = bench_out::to(3, true);
-    bench_out::number(&mut out, status as u32);
-    bench_out::flush(&mut out);
 }
 
 fn main() {
     let request = bench_args::parse();
     let status = done(request);
-    if request.status {
-        tell(status);
-    }
+    bench_refuse::tell(request, status);
 }

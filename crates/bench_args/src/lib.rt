@@ -2,7 +2,7 @@
 pub mod levels; // LEVELS
 mod words; // words and numbers
 
-use sdrr_info::Settings;
+use window::Settings;
 ghost use mathlib.Core.Path.{_≡_};
 
 // Commands.

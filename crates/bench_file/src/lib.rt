@@ -1,5 +1,14 @@
 // The dump: a file or standard input, read whole; and files that hold a dump in a form of their own.
+ghost use mathlib.Core.Path.{_≡_};
+ghost use lib.ListN.{length};
 ghost use Rattle.io.specs.Counts.{Counts};
+
+// Room for a dump, 2 MiB. The contract gives the length alone, so that no caller's proof computes the list.
+pub fn image_space() -> [u8; 2097152]
+    ensures { λ r. ⌜ 2097152 ≡ length r ⌝ }
+{
+    [0; 2097152]
+}
 
 // 0 and how many bytes there are; or 108 to 111: why it can't be opened or read, 112: it is too large, or the number of its form.
 pub struct Loaded {

@@ -1,5 +1,6 @@
 // Why there is no answer, and how an answer ends. Each call says the status that the program ends with: 0 for an answer that was written whole,
 // 1 for a refusal or an answer that was not, 2 for words that are not understood.
+use bench_args::Request;
 use bench_form::form;
 use bench_out::Out;
 
@@ -8,6 +9,14 @@ pub struct Asked {
     pub machine: bool,
     pub bytes: bool,
     pub file: usize,
+}
+
+pub fn asked(request: Request) -> Asked {
+    Asked {
+        machine: request.machine,
+        bytes: bench_args::is_bytes(request),
+        file: request.file,
+    }
 }
 
 // A script's refusal goes to standard error where the standard output is for bytes.
@@ -48,6 +57,27 @@ pub fn part(asked: Asked, number: u8, of: &[u8], numbers: &[u32]) -> u8 {
         for_person(asked.file, n, of, numbers);
     }
     1
+}
+
+// An empty file is refused by the library with 2; for a person there are clearer words. A file that is no dump but holds one has words of its own.
+fn opening_number(machine: bool, number: u8, image: &[u8]) -> u8 {
+    if image.len() == 0 {
+        return if machine { number } else { 114 };
+    }
+    let form = bench_file::form_number(image);
+    if form != 0 {
+        return form;
+    }
+    number
+}
+
+// The dump does not open. Here 2 is about the header.
+pub fn opening(asked: Asked, number: u8, image: &[u8]) -> u8 {
+    let n = opening_number(asked.machine, number, image);
+    if n == 2 {
+        return part(asked, n, b", info header", &[]);
+    }
+    part(asked, n, b"", &[])
 }
 
 // The command line is not understood, by the argument `about`.
@@ -93,4 +123,22 @@ pub fn page_end(out: &mut Out) -> u8 {
     form(&mut other, b"bench: %w\n", &[115]);
     bench_out::flush(&mut other);
     1
+}
+
+// The program has another one's command before it. Who asks for the status is told so by it; to others it is a refusal.
+pub fn other_program(request: Request) -> u8 {
+    if request.status {
+        return 3;
+    }
+    part(asked(request), 119, b"", &[])
+}
+
+// Where the caller asks for it, the status is one digit on descriptor 3, the last that is written.
+pub fn tell(request: Request, status: u8) {
+    if !request.status {
+        return;
+    }
+    let mut out = bench_out::to(3, true);
+    bench_out::number(&mut out, status as u32);
+    bench_out::flush(&mut out);
 }

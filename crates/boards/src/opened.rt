@@ -9,7 +9,7 @@ use board::Board;
 use fw_parser::Opening;
 use rows::SetWord;
 use sdrr_info::SdrrInfo;
-use sdrr_info::Settings;
+use window::Settings;
 
 pub(crate) fn settings(given: &[u8]) -> Settings {
     Settings {

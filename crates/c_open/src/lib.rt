@@ -1,6 +1,6 @@
 // The opening as C and Rust call it: the report by value.
 use c_report::OneromReport;
-use sdrr_info::Settings;
+use window::Settings;
 ghost use mathlib.Core.Path.{_≡_};
 ghost use Rattle.fw_parser.specs.Opening.{setRowsLeft, romRowsLeft};
 ghost use Rattle.c_open.specs.Opening.{openCall, openingOut};

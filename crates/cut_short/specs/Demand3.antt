@@ -6,7 +6,7 @@ use mathlib.Core.List.{List}
 use lib.ListN.{length, take}
 use Rattle.prog.specs.Prog.{reach}
 use Rattle.info.specs.Reads.{RomRead}
-use Rattle.sdrr_info.specs.declared.Settings.{Settings}
+use Rattle.window.specs.declared.Settings.{Settings}
 use Rattle.fw_parser.specs.Opening.{Opened, refused, opened, openP, openWith, setRowsLeft, romRowsLeft}
 use Rattle.cut_short.specs.Shown.{EndedOpening, KeptOpening}
 use Rattle.cut_short.specs.ReadAfter.{readAfter}

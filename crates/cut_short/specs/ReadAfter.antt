@@ -3,7 +3,7 @@ use Prim.Native.Nat.{ℕ}
 use mathlib.Core.List.{List}
 use Rattle.info.specs.Lent.{lentBy}
 use Rattle.info.specs.Reads.{RomRead, Reply, romRead}
-use Rattle.sdrr_info.specs.declared.Settings.{Settings}
+use Rattle.window.specs.declared.Settings.{Settings}
 use Rattle.sdrr_info.specs.Report.{boardOf}
 use Rattle.fw_parser.specs.Opening.{Opened, setRowsLeft, romRowsLeft}
 use Rattle.fw_parser.specs.Reply.{openingReply}

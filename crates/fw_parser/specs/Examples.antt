@@ -32,7 +32,7 @@ use Rattle.pins.specs.Pins as P
 use Rattle.walk.specs.Walk.{romOf, judgeRom, romP, romsP, tableP, pointedP, setP, setsP, walkP, romsOf}
 use Rattle.walk.specs.Names.{nameP, namesP, walkNamesP}
 use Rattle.walk.specs.Rows.{setRow, countsOf, setRowsAfter, romFront, nameWords, romRow, romRows}
-use Rattle.sdrr_info.specs.declared.Settings.{Settings}
+use Rattle.window.specs.declared.Settings.{Settings}
 use Rattle.sdrr_info.specs.declared.SdrrInfo.{SdrrInfo}
 use Rattle.fw_parser.specs.Opening.{lookP, itemsP, reportOf, verdict, openP, opening, Opened, refused, opened, setRowsLeft, romRowsLeft}
 use Rattle.fw_parser.specs.Opening as O

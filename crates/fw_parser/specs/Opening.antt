@@ -22,7 +22,7 @@ pub use Rattle.sets_source.specs.Looked.{Looked, notLookedFor, looked, setCount
 unfoldable pub use Rattle.sets_source.specs.Looked.{lookP}
 pub use Rattle.sets_item.specs.Sets.{Sets, counted, setsItem}
 unfoldable pub use Rattle.sets_item.specs.Sets.{setsItemP}
-use Rattle.sdrr_info.specs.declared.Settings.{Settings}
+use Rattle.window.specs.declared.Settings.{Settings}
 use Rattle.sdrr_info.specs.declared.SdrrInfo.{SdrrInfo}
 
 -- ---- the items, in a row

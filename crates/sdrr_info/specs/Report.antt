@@ -1,7 +1,7 @@
 -- What later calls look at of a report, and where the image stands.
 use Rattle.board.specs.declared.Board.{Board}
 use Rattle.board.specs.Board.{boardPins}
-use Rattle.sdrr_info.specs.declared.Settings.{Settings}
+use Rattle.window.specs.declared.Settings.{Settings}
 use Rattle.sdrr_info.specs.declared.SdrrInfo.{SdrrInfo}
 
 abbrev pub boardOf : Settings → SdrrInfo → Board

@@ -6,15 +6,9 @@ use metadata::MetadataItem;
 use pins::PinsItem;
 use sets_item::SetsItem;
 use text::Text;
+use window::Settings;
 ghost use mathlib.Core.Path.{_≡_};
 ghost use Rattle.sdrr_info.specs.Report.{boardOf};
-
-// Where the image stands: its base, the base for an Rp2350, and the header's offset.
-pub struct Settings {
-    pub flash_base: u32,
-    pub cs0_base: u32,
-    pub info_offset: u32,
-}
 
 // The report.
 pub struct SdrrInfo {

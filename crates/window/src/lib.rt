@@ -4,6 +4,13 @@ use types::McuLine;
 ghost use mathlib.Core.Path.{_≡_};
 ghost use Rattle.window.specs.Window.{canRead, onFrom, pastWindow, beyondWindow, baseAfter, pointerNumber};
 
+// Where the image stands: its base, the base for an Rp2350, and the header's offset.
+pub struct Settings {
+    pub flash_base: u32,
+    pub cs0_base: u32,
+    pub info_offset: u32,
+}
+
 // Whether a read of n bytes at an address succeeds.
 pub fn can_read(image: &[u8], base: u32, address: u64, n: usize) -> bool
     ensures { λ r. ⌜ r ≡ canRead (now (image .entry)) base address n ⌝ }

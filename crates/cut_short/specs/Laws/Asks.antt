@@ -26,7 +26,7 @@ use Rattle.metadata.specs.Metadata.{refusedMetadata, metadataOf, metadataP}
 use Rattle.pins.specs.Pins.{refusedPins, pinsOf, pinsP}
 use Rattle.walk.specs.Walk.{NameAt, noName, nameAt, Rom, RomSet, Part, stop, found, orStop, infoSize, stride, romP, romsP, tableP, pointedP, setP, setsP, walkP, romsOf}
 use Rattle.walk.specs.Names.{nameP, namesP, walkNamesP}
-use Rattle.sdrr_info.specs.declared.Settings.{Settings}
+use Rattle.window.specs.declared.Settings.{Settings}
 use Rattle.fw_parser.specs.Opening.{Looked, looked, lookP, metadataEnded, setCount, setsPointer, counted, setsItemP, itemsP, refused, afterHeader, openP, opening, openWith}
 use Rattle.cut_short.specs.Demand3.{Opens, reachWith}
 use Rattle.cut_short.specs.Laws.CutOpening.{after-ended}

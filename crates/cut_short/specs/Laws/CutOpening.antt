@@ -25,7 +25,7 @@ use Rattle.metadata.specs.declared.MetadataItem.{MetadataItem}
 use Rattle.walk.specs.Walk.{RomSet, Part, stop, found, romsOf}
 use Rattle.walk.specs.Rows.{setRows, romFront, shortSets, shortRoms}
 use Rattle.walk.specs.Laws.Ended.{Ended}
-use Rattle.sdrr_info.specs.declared.Settings.{Settings}
+use Rattle.window.specs.declared.Settings.{Settings}
 use Rattle.sdrr_info.specs.declared.SdrrInfo.{SdrrInfo}
 use Rattle.fw_parser.specs.Opening.{Looked, notLookedFor, looked, Sets, Items, ItemAnswers, itemsOf, itemsP, metadataItem, setsItem, reportOf, setsOf, Opened, refused, opened, verdict, afterHeader, openP}
 use Rattle.cut_short.specs.Shown.{nameOf, EndedReport, EndedOpening, Kept, KeptOpening}

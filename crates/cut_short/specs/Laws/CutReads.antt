@@ -22,7 +22,7 @@ use Rattle.walk.specs.Laws.Rows.{rom-rows-length, type-words}
 use Rattle.info.specs.Lent.{Lent, lentBy}
 use Rattle.info.specs.Reads.{Bytes, RomRead, lengthOf, readP, Reply, readReply, romRead}
 use Rattle.info.specs.Laws.Like.{Like, read-like, read-honest, read-unserved}
-use Rattle.sdrr_info.specs.declared.Settings.{Settings}
+use Rattle.window.specs.declared.Settings.{Settings}
 use Rattle.sdrr_info.specs.declared.SdrrInfo.{SdrrInfo}
 use Rattle.sdrr_info.specs.Report.{boardOf}
 use Rattle.cut_short.specs.Shown.{Kept}

@@ -5,7 +5,7 @@ use Prim.Native.Nat.{ℕ, _≤_}
 use mathlib.Core.Path.{_≡_, ap}
 use mathlib.Core.List.{List}
 use lib.ListN.{length, take}
-use Rattle.sdrr_info.specs.declared.Settings.{Settings}
+use Rattle.window.specs.declared.Settings.{Settings}
 use Rattle.fw_parser.specs.Opening.{Opened, refused, opened, openWith}
 use Rattle.fw_parser.specs.Reply.{openingReply}
 use Rattle.fw_parser.specs.Laws.Fits.{Fits, opening-fits}

@@ -19,7 +19,7 @@ use Rattle.walk.specs.Rows.{setRows, romRows, overwritten}
 use Rattle.info.specs.Lent.{Lent, lentBy}
 use Rattle.info.specs.Reads.{RomRead, readP, Reply, readReply, romRead}
 use Rattle.info.specs.Laws.Like.{Like, read-unserved}
-use Rattle.sdrr_info.specs.declared.Settings.{Settings}
+use Rattle.window.specs.declared.Settings.{Settings}
 use Rattle.sdrr_info.specs.Report.{boardOf}
 use Rattle.fw_parser.specs.Opening.{Opened, refused, opened, openP, opening, setRowsLeft, romRowsLeft}
 use Rattle.fw_parser.specs.Reply.{noReport, openingReply}

@@ -21,7 +21,7 @@ use Rattle.header.specs.Header.{headerP}
 use Rattle.walk.specs.Walk.{RomSet, romsOf}
 use Rattle.rows.specs.LentRows.{setWidth, romWidth}
 use Rattle.walk.specs.Rows.{shortSets, shortRoms, overwritten}
-use Rattle.sdrr_info.specs.declared.Settings.{Settings}
+use Rattle.window.specs.declared.Settings.{Settings}
 use Rattle.sdrr_info.specs.declared.SdrrInfo.{SdrrInfo}
 use Rattle.fw_parser.specs.Opening.{Items, ItemAnswers, setsOf, reportOf, itemsOf, itemsP, Opened, refused, opened, verdict, afterHeader, openP, opening}
 

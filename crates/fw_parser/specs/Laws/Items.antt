@@ -24,7 +24,7 @@ use Rattle.walk.specs.Walk.{RomSet, Part, stop, found, romsOf}
 use Rattle.walk.specs.Rows.{shortSets, shortRoms}
 use Rattle.walk.specs.Names.{walkNamesP}
 use Rattle.walk.specs.Laws.Ended.{names-each, no-name-shown}
-use Rattle.sdrr_info.specs.declared.Settings.{Settings}
+use Rattle.window.specs.declared.Settings.{Settings}
 use Rattle.sdrr_info.specs.declared.SdrrInfo.{SdrrInfo}
 use Rattle.fw_parser.specs.Opening.{Looked, lookP, Sets, setsItemP, Items, ItemAnswers, itemsOf, itemsP, metadataItem, setsItem, reportOf, setsOf, Opened, refused, opened, verdict, afterHeader, openP}
 

@@ -13,7 +13,7 @@ use Rattle.walk.specs.Walk.{RomSet, romsOf}
 use Rattle.rows.specs.LentRows.{setWidth, romWidth}
 use Rattle.walk.specs.Rows.{setRows, romRows}
 use Rattle.walk.specs.Laws.Rows.{set-rows-length, rom-rows-length}
-use Rattle.sdrr_info.specs.declared.Settings.{Settings}
+use Rattle.window.specs.declared.Settings.{Settings}
 use Rattle.sdrr_info.specs.declared.SdrrInfo.{SdrrInfo}
 use Rattle.fw_parser.specs.declared.Opening.{Opening}
 use Rattle.fw_parser.specs.Opening.{Opened, refused, opened, openWith, setRowsLeft, romRowsLeft}

@@ -16,7 +16,7 @@ use Rattle.version.specs.Version.{from060}
 use Rattle.walk.specs.Walk.{RomSet, Part, stop, found, walkP, romsOf, extraByte, stride}
 use Rattle.walk.specs.Rows.{countsOf}
 use Rattle.walk.specs.Laws.Found.{Sound, Counted, walk-sound, counts-roms}
-use Rattle.sdrr_info.specs.declared.Settings.{Settings}
+use Rattle.window.specs.declared.Settings.{Settings}
 use Rattle.sets_item.specs.declared.SetsItem.{SetsItem}
 use Rattle.sdrr_info.specs.declared.SdrrInfo.{SdrrInfo}
 use Rattle.fw_parser.specs.Opening.{Looked, metadataEnded, setCount, setsPointer, Sets, counted, setsItemP, setsItem, setsOf, opened, openP}

@@ -30,7 +30,7 @@ use Rattle.sets_source.specs.Code.{sourceOf}
 use Rattle.records.specs.Code.{recordsOf}
 use Rattle.sets_item.specs.Code.{walkOf, itemOf}
 use Rattle.sets_item.specs.Laws.{Walks, left-numbered, sets-run, item-refused, item-accepted}
-use Rattle.sdrr_info.specs.declared.Settings.{Settings}
+use Rattle.window.specs.declared.Settings.{Settings}
 use Rattle.sdrr_info.specs.declared.SdrrInfo.{SdrrInfo}
 use Rattle.fw_parser.specs.declared.Opening.{Opening}
 use Rattle.fw_parser.specs.Opening.{Looked, lookP, setCount, counted, Items, itemsOf, itemsP, setsItem, reportOf, setsOf, Opened, refused, opened, verdict, afterHeader, openP, opening, setRowsLeft, romRowsLeft}

@@ -20,7 +20,7 @@ use Rattle.info.specs.Reads.{RomRead, range, byte, shownByte, storedP, finished
 use Rattle.byte_reads.specs.declared.ByteRead.{ByteRead}
 use Rattle.byte_reads.specs.Calls.{byteOf}
 use Rattle.info.specs.Laws.History.{refused-changes-nothing}
-use Rattle.sdrr_info.specs.declared.Settings.{Settings}
+use Rattle.window.specs.declared.Settings.{Settings}
 use Rattle.sdrr_info.specs.declared.SdrrInfo.{SdrrInfo}
 use Rattle.sdrr_info.specs.Report.{boardOf}
 use Rattle.fw_parser.specs.Opening.{Opened, refused, opening, setRowsLeft, romRowsLeft}

@@ -60,11 +60,18 @@ fn open(request: Request, image: &[u8]) -> u8 {
     let settings = bench_args::settings(request);
     let opening = fw_parser::parse_flash(image, settings, &mut set_rows, &mut rom_rows);
     if opening.number != 0 {
-        return bench_refuse::opening(bench_refuse::asked(request), opening.number, image);
+        return bench_refuse::opening(bench_refuse::how(request), opening.number, image);
     }
     let info = opening.info;
     let base = bench_rows::base_of(sdrr_info::board(settings, info));
-    report(bench_refuse::asked(request), image, base, info, &set_rows, &rom_rows)
+    report(
+        bench_refuse::how(request),
+        image,
+        base,
+        info,
+        &set_rows,
+        &rom_rows,
+    )
 }
 
 fn run(request: Request) -> u8 {
@@ -72,7 +79,7 @@ fn run(request: Request) -> u8 {
     let loaded = bench_file::load(request.file, request.sample, &mut image);
     let n = loaded.length;
     if loaded.number != 0 {
-        return bench_refuse::part(bench_refuse::asked(request), loaded.number, b"", &[]);
+        return bench_refuse::part(bench_refuse::how(request), loaded.number, b"", &[]);
     }
     open(request, &image[..n])
 }
@@ -96,7 +103,7 @@ fn done(request: Request) -> u8 {
         return page(true);
     }
     if request.number != 0 {
-        return bench_refuse::arguments(bench_refuse::asked(request), request.number, request.about);
+        return bench_refuse::arguments(bench_refuse::how(request), request.number, request.about);
     }
     if request.command == bench_args::HELP {
         return page(false);

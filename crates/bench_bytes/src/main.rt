@@ -4,7 +4,7 @@ use bench_args::Request;
 use board::Board;
 
 fn bytes(request: Request, image: &[u8], board: Board, set_rows: &[u32], rom_rows: &[u32]) -> u8 {
-    let how = bench_refuse::asked(request);
+    let how = bench_refuse::how(request);
     let set = request.set;
     if request.command == bench_args::RAW {
         return bench_reads::raw(how, image, board, set_rows, set);
@@ -23,7 +23,7 @@ fn open(request: Request, image: &[u8]) -> u8 {
     let settings = bench_args::settings(request);
     let opening = fw_parser::parse_flash(image, settings, &mut set_rows, &mut rom_rows);
     if opening.number != 0 {
-        return bench_refuse::opening(bench_refuse::asked(request), opening.number, image);
+        return bench_refuse::opening(bench_refuse::how(request), opening.number, image);
     }
     let info = opening.info;
     let board = sdrr_info::board(settings, info);
@@ -35,14 +35,14 @@ fn run(request: Request) -> u8 {
     let loaded = bench_file::load(request.file, request.sample, &mut image);
     let n = loaded.length;
     if loaded.number != 0 {
-        return bench_refuse::part(bench_refuse::asked(request), loaded.number, b"", &[]);
+        return bench_refuse::part(bench_refuse::how(request), loaded.number, b"", &[]);
     }
     open(request, &image[..n])
 }
 
 fn done(request: Request) -> u8 {
     if request.number != 0 {
-        let how = bench_refuse::asked(request);
+        let how = bench_refuse::how(request);
         return bench_refuse::arguments(how, request.number, request.about);
     }
     if bench_args::BYTE < request.command {

@@ -11,7 +11,7 @@ pub struct Asked {
     pub file: usize,
 }
 
-pub fn asked(request: Request) -> Asked {
+pub fn how(request: Request) -> Asked {
     Asked {
         machine: request.machine,
         bytes: bench_args::is_bytes(request),
@@ -130,7 +130,7 @@ pub fn other_program(request: Request) -> u8 {
     if request.status {
         return 3;
     }
-    part(asked(request), 119, b"", &[])
+    part(how(request), 119, b"", &[])
 }
 
 // Where the caller asks for it, the status is one digit on descriptor 3, the last that is written.

@@ -5,7 +5,11 @@
 //   %o on or off          %f the same as 1 or 0     %w what a number means    %m what a name's number means
 //   %a a chip-select state in one word              %e, %h what a comparison shows, for a person and for a script
 //   %_ nothing: the number is passed over
+mod names;
+mod table;
+
 use bench_out::Out;
+use table::part;
 ghost use Prim.Native.Nat.{_≤_, _<_};
 ghost use lib.ListN.{length};
 
@@ -23,12 +27,11 @@ fn put(out: &mut Out, letter: u8, n: u32) {
         b'_' => (),
         b'x' => bench_out::hex(out, n, 8),
         b'b' => bench_out::hex(out, n, 2),
-        b'n' => bench_names::pin(out, n),
-        b'r' => bench_names::rom_count(out, n),
-        b't' => bench_names::rom_type(out, n),
-        b'w' => bench_names::words(out, n),
-        b'm' => bench_names::words_of_name(out, n),
-        _ => bench_names::named(out, letter, n),
+        b'n' => names::pin(out, n),
+        b'r' => names::rom_count(out, n),
+        b'w' => names::words(out, n),
+        b'm' => names::words_of_name(out, n),
+        _ => names::named(out, letter, n),
     }
 }
 
@@ -56,26 +59,15 @@ pub fn form(out: &mut Out, form: &[u8], numbers: &[u32]) {
     }
 }
 
-// Where the form for a script starts: behind the bar; at the end where there is none.
-fn script_start(forms: &[u8], bar: usize) -> usize
-    requires { ⌜ bar ≤ length (now forms) ⌝ }
-    ensures { λ r. ⌜ r ≤ length (now (forms .entry)) ⌝ }
-{
-    if bar < forms.len() {
-        return bar + 1;
-    }
-    bar
+// Forms between bars, in pairs: one for a person, one for a script. Pair k, and so nothing where there is none.
+pub fn choice(out: &mut Out, forms: &[u8], k: u8, numbers: &[u32]) {
+    let n = k as u32 * 2 | bench_out::is_script(out) as u32;
+    form(out, part(forms, b'|', n), numbers);
 }
 
 // The form for a person or, behind a bar, the one for a script.
 pub fn told(out: &mut Out, forms: &[u8], numbers: &[u32]) {
-    let bar = bytes::scan::find(forms, 0, forms.len(), b'|');
-    if bench_out::is_script(out) {
-        let from = script_start(forms, bar);
-        form(out, &forms[from..], numbers);
-    } else {
-        form(out, &forms[0..bar], numbers);
-    }
+    choice(out, forms, 0, numbers);
 }
 
 // The start of an item, with its number for a script; then what a refusal means. Whether it is accepted.

@@ -1,25 +1,25 @@
 use Prim.Native.Nat.{_≤_, _-_}
 use borrow.Author.Needs.{needs}
-use Rattle.bench_header.proofs.commit.Statement.{statement}
-use Rattle.bench_header.proofs.commit.Tie as tie
+use Rattle.bench_report.proofs.pin_lines.widened.Statement.{statement}
+use Rattle.bench_report.proofs.pin_lines.widened.Tie as tie
 
 abbrev Inv-loop : tie.InvT-loop
-Inv-loop out₀ c i₀ out i = i ≤ 8
+Inv-loop bytes n₀ i₀ n i = i ≤ 16
 
 abbrev μ-loop : tie.MeasureT-loop
-μ-loop out₀ c i₀ out i = 8 - i
+μ-loop bytes n₀ i₀ n i = 16 - i
 
-pub commit-spec : {M : Type 1} → statement M
-commit-spec =
+pub widened-spec : {M : Type 1} → statement M
+widened-spec =
     tie.close
     (tie.spec
     Inv-loop
     μ-loop
     (λ c. search needs)
-    (λ c. search needs)
-    (λ c. search needs)
-    (λ c. search needs)
     (λ c κs. search needs)
+    (λ c. search needs)
+    (λ c. search needs)
+    (λ c. search needs)
     (λ c. search needs)
     (λ c. search needs)
     (λ c. search needs)

@@ -1,7 +1,6 @@
 // The sets and their ROMs, for a person or for a script.
 mod same;
 
-use bench_form::item;
 use bench_form::told;
 use bench_out::Out;
 use rows::RomWord;
@@ -170,23 +169,27 @@ fn same_lines(
 // A refused walk keeps the count and serves none. is_lost: metadata, which lists the sets, is refused.
 pub fn count(out: &mut Out, sets: SetsItem, is_lost: bool) {
     let counted = sets.rom_set_count as u32;
-    let is_there = item(
-        out,
-        b"Sets               |sets.number %d\n",
-        b"refused with %d: %w\n                   |sets.reason %w\n",
-        sets.number,
-    );
-    told(
-        out,
-        b"|sets.count %d\nsets.served %d\n",
-        &[counted, sets.served],
-    );
-    if !is_there {
-        told(out, b"counted %d, served none\n", &[counted]);
+    let n = sets.number as u32;
+    if n != 0 {
+        told(
+            out,
+            b"Sets               refused with %d: %w\n                   counted %d, served none\n|\
+            sets.number %d\nsets.reason %w\nsets.count %d\nsets.served %d\n",
+            &[n, n, counted, sets.served],
+        );
     } else if is_lost {
-        told(out, b"none can be found without metadata\n", &[]);
+        told(
+            out,
+            b"Sets               none can be found without metadata\n|\
+            sets.number 0\nsets.count %d\nsets.served %d\n",
+            &[counted, sets.served],
+        );
     } else {
-        told(out, b"%d\n", &[counted]);
+        told(
+            out,
+            b"Sets               %d\n|sets.number 0\nsets.count %d\nsets.served %d\n",
+            &[counted, sets.served],
+        );
     }
 }
 

@@ -57,7 +57,7 @@ fn report(
 fn open(request: Request, image: &[u8]) -> u8 {
     let mut set_rows = bench_rows::set_space();
     let mut rom_rows = bench_rows::rom_space();
-    let settings = bench_args::settings(request);
+    let settings = bench_args::given::settings(request);
     let opening = fw_parser::parse_flash(image, settings, &mut set_rows, &mut rom_rows);
     if opening.number != 0 {
         return bench_refuse::opening(bench_refuse::how(request), opening.number, image);

@@ -1,9 +1,7 @@
 // The command line of the bench. Options may stand anywhere before --; the words are [FILE] or FILE COMMAND SET [ADDRESS] [LEVELS].
-pub mod levels; // LEVELS
+pub mod given; // for the library
+mod levels; // LEVELS
 mod words; // words and numbers
-
-use window::Settings;
-ghost use mathlib.Core.Path.{_≡_};
 
 // Commands.
 pub const READ: u8 = 0;
@@ -61,7 +59,7 @@ pub struct Request {
     pub sample: usize,
     pub set: u32,
     pub address: u32,
-    pub levels: u8,
+    pub levels: u16,
     pub flash_base: u32,
     pub cs0_base: u32,
     pub info_offset: u32,
@@ -91,33 +89,42 @@ fn nothing() -> Request {
     }
 }
 
+// The first refusal stands.
 fn stop(request: Request, number: u8, about: usize) -> Request {
     let mut r = request;
+    if r.number != 0 {
+        return r;
+    }
     r.number = number;
     r.about = about;
     r
 }
 
-// The number of the option that waits for it, a SET or an ADDRESS.
-fn take_number(request: Request, at: usize, word: &[u8]) -> Request {
-    let n = words::to_number(word);
+// The number or the file of the option that waits for it, a SET or an ADDRESS.
+fn take_value(request: Request, at: usize, word: &[u8]) -> Request {
     let mut r = request;
-    if !n.ok {
-        return stop(r, 106, at);
-    }
     let waiting = r.waiting;
     r.waiting = NO_OPTION;
+    if waiting == SAMPLE {
+        r.sample = at;
+        return r;
+    }
+    let n = words::to_number(word);
+    if 4294967295 < n {
+        return stop(r, 106, at);
+    }
+    let value = n as u32;
     if waiting == 0 {
-        r.flash_base = n.value;
+        r.flash_base = value;
     } else if waiting == 1 {
-        r.cs0_base = n.value;
+        r.cs0_base = value;
     } else if waiting == 2 {
-        r.info_offset = n.value;
+        r.info_offset = value;
     } else if r.next == SET {
-        r.set = n.value;
+        r.set = value;
         r.next = after_set(r.command);
     } else {
-        r.address = n.value;
+        r.address = value;
         r.next = LEVELS;
     }
     r
@@ -133,21 +140,19 @@ fn after_set(command: u8) -> u8 {
     NOTHING
 }
 
-// The number or the file of the option that waits for it.
-fn take_value(request: Request, at: usize, word: &[u8]) -> Request {
-    if request.waiting != SAMPLE {
-        return take_number(request, at, word);
-    }
-    let mut r = request;
-    r.sample = at;
-    r.waiting = NO_OPTION;
-    r
-}
-
-// Bytes are read from a file that is named, never from the sample.
-fn take_command(request: Request, at: usize, command: u8) -> Request {
+// A command, or in the first place a file. Bytes are read from a file that is named, never from the sample.
+fn take_file_or_command(request: Request, at: usize, word: &[u8]) -> Request {
     let mut r = request;
     let is_first = r.next == FILE_OR_COMMAND;
+    let command = words::place(word, b"read|raw|byte|help");
+    if base::both(is_first, HELP < command) {
+        r.file = at;
+        r.next = COMMAND;
+        return r;
+    }
+    if HELP < command {
+        return stop(r, 103, at);
+    }
     r.command = command;
     r.command_at = at;
     r.next = if command == HELP { NOTHING } else { SET };
@@ -157,44 +162,23 @@ fn take_command(request: Request, at: usize, command: u8) -> Request {
     r
 }
 
-// A command, or in the first place a file.
-fn take_file_or_command(request: Request, at: usize, word: &[u8]) -> Request {
-    let command = words::place(word, b"read|raw|byte|help");
-    if command < 255 {
-        return take_command(request, at, command);
-    }
+fn take_word(request: Request, at: usize, word: &[u8]) -> Request {
     let mut r = request;
-    if r.next == COMMAND {
-        return stop(r, 103, at);
+    if r.next < SET {
+        return take_file_or_command(r, at, word);
     }
-    r.file = at;
-    r.next = COMMAND;
-    r
-}
-
-fn take_levels(request: Request, at: usize, word: &[u8]) -> Request {
-    let l = levels::parse(word);
-    let mut r = request;
-    if !l.ok {
+    if r.next == NOTHING {
+        return stop(r, 105, at);
+    }
+    if r.next != LEVELS {
+        return take_value(r, at, word);
+    }
+    r.levels = levels::parse(word);
+    r.next = NOTHING;
+    if r.levels == levels::REFUSED {
         return stop(r, 107, at);
     }
-    r.levels = l.high;
-    r.next = NOTHING;
     r
-}
-
-fn take_word(request: Request, at: usize, word: &[u8]) -> Request {
-    let next = request.next;
-    if next < SET {
-        return take_file_or_command(request, at, word);
-    }
-    if next == LEVELS {
-        return take_levels(request, at, word);
-    }
-    if next == NOTHING {
-        return stop(request, 105, at);
-    }
-    take_number(request, at, word)
 }
 
 // What an option without a value says.
@@ -242,7 +226,7 @@ fn take_joined(request: Request, at: usize, word: &[u8]) -> Request {
         return stop(request, 101, at);
     }
     let r = take_option(request, at, option);
-    take_number(r, at, &word[end + 1..])
+    take_value(r, at, &word[end + 1..])
 }
 
 // Behind a refusal it still counts whether bytes are asked for: then the refusal goes to standard error.
@@ -268,33 +252,18 @@ fn take_other(request: Request, at: usize, word: &[u8]) -> Request {
     take_word(request, at, word)
 }
 
-// Which option the word is; behind -- there are none.
-fn option_of(request: Request, word: &[u8]) -> u8 {
-    if request.is_ended {
-        return NO_OPTION;
-    }
-    words::place(
-        word,
-        b"--flash-base|--cs0-base|--info-offset|--sample|--machine|--status|--version|--|--help|-h",
-    )
-}
-
-// The first refusal stands.
-fn too_long(request: Request) -> Request {
-    if request.number != 0 {
-        return request;
-    }
-    stop(request, 100, 0)
-}
-
+// Behind -- there are no options.
 fn take(request: Request, at: usize) -> Request {
     let mut space = io::buffer();
     let n = os::arg(at, &mut space);
     if os::errno() != 0 {
-        return too_long(request);
+        return stop(request, 100, 0);
     }
-    let option = option_of(request, &space[..n]);
-    if option < NO_OPTION {
+    let option = words::place(
+        &space[..n],
+        b"--flash-base|--cs0-base|--info-offset|--sample|--machine|--status|--version|--|--help|-h",
+    );
+    if base::both(option < NO_OPTION, !request.is_ended) {
         return take_option(request, at, option);
     }
     take_other(request, at, &space[..n])
@@ -303,9 +272,6 @@ fn take(request: Request, at: usize) -> Request {
 // Nothing may be left out.
 fn whole(request: Request) -> Request {
     let about = request.about;
-    if request.number != 0 {
-        return request;
-    }
     if request.waiting != NO_OPTION {
         return stop(request, 102, about);
     }
@@ -324,18 +290,6 @@ pub fn parse() -> Request {
         i += 1;
     }
     whole(request)
-}
-
-pub fn settings(request: Request) -> Settings
-    ensures { λ r. ⌜ r .«flash_base» ≡ request .«flash_base» ⌝ }
-    ensures { λ r. ⌜ r .«cs0_base» ≡ request .«cs0_base» ⌝ }
-    ensures { λ r. ⌜ r .«info_offset» ≡ request .«info_offset» ⌝ }
-{
-    Settings {
-        flash_base: request.flash_base,
-        cs0_base: request.cs0_base,
-        info_offset: request.info_offset,
-    }
 }
 
 // Whether what is asked for is bytes: then messages go to standard error.

@@ -2,10 +2,8 @@
 ghost use Prim.Native.Nat.{_≤_};
 ghost use lib.ListN.{length};
 
-pub struct Number {
-    pub ok: bool,
-    pub value: u32,
-}
+// Above every number.
+const NO_NUMBER: u64 = 4294967296;
 
 // Where the part that starts at an index ends: before the mark, or with the word.
 pub fn part_end(word: &[u8], from: usize, mark: u8) -> usize
@@ -15,17 +13,14 @@ pub fn part_end(word: &[u8], from: usize, mark: u8) -> usize
     bytes::scan::find(word, from, word.len(), mark)
 }
 
-fn is_word(word: &[u8], m: &[u8]) -> bool {
-    base::both(word.len() == m.len(), magic::starts_with(word, m))
-}
-
 // Which entry of a table the word is: 0 for the first; 255 where it is none. Entries stand between bars.
 pub fn place(word: &[u8], table: &[u8]) -> u8 {
     let mut at = 0;
     let mut k = 0;
     while k < 255 {
         let end = part_end(table, at, b'|');
-        if is_word(word, &table[at..end]) {
+        let is_long = word.len() == end - at;
+        if base::both(is_long, magic::starts_with(word, &table[at..end])) {
             return k;
         }
         if end == table.len() {
@@ -35,13 +30,6 @@ pub fn place(word: &[u8], table: &[u8]) -> u8 {
         k += 1;
     }
     k
-}
-
-fn no_number() -> Number {
-    Number {
-        ok: false,
-        value: 0,
-    }
 }
 
 // 255 for what is no digit.
@@ -69,40 +57,30 @@ fn grown(value: u64, base: u8, d: u8) -> u64
     value * 10 + d as u64
 }
 
-fn digits(word: &[u8], base: u8) -> Number {
+fn digits(word: &[u8], base: u8) -> u64 {
     if word.len() == 0 {
-        return no_number();
+        return NO_NUMBER;
     }
     let mut value: u64 = 0;
     let mut i = 0;
     while i < word.len() {
         let d = digit(word[i]);
         if base <= d {
-            return no_number();
+            return NO_NUMBER;
         }
         value = grown(value, base, d);
         if 4294967295 < value {
-            return no_number();
+            return NO_NUMBER;
         }
         i += 1;
     }
-    Number {
-        ok: true,
-        value: value as u32,
-    }
+    value
 }
 
-fn is_hexadecimal(word: &[u8]) -> bool {
-    base::either(
-        magic::starts_with(word, b"0x"),
-        magic::starts_with(word, b"0X"),
-    )
-}
-
-// Decimal, or hexadecimal after 0x or 0X.
-pub fn to_number(word: &[u8]) -> Number {
+// Decimal, or hexadecimal after 0x or 0X; above 4294967295 where the word is no number.
+pub fn to_number(word: &[u8]) -> u64 {
     if 2 < word.len() {
-        if is_hexadecimal(word) {
+        if base::both(word[0] == b'0', word[1] | 32 == b'x') {
             return digits(&word[2..], 16);
         }
     }

@@ -10,7 +10,7 @@ fn bytes(request: Request, image: &[u8], board: Board, set_rows: &[u32], rom_row
         return bench_reads::raw(how, image, board, set_rows, set);
     }
     let at = request.address;
-    let cs_set = bench_args::levels::cs_set(request.levels);
+    let cs_set = bench_args::given::cs_set(request.levels);
     if request.command == bench_args::READ {
         return bench_reads::read(how, image, board, set_rows, rom_rows, set, cs_set);
     }
@@ -20,7 +20,7 @@ fn bytes(request: Request, image: &[u8], board: Board, set_rows: &[u32], rom_row
 fn open(request: Request, image: &[u8]) -> u8 {
     let mut set_rows = bench_rows::set_space();
     let mut rom_rows = bench_rows::rom_space();
-    let settings = bench_args::settings(request);
+    let settings = bench_args::given::settings(request);
     let opening = fw_parser::parse_flash(image, settings, &mut set_rows, &mut rom_rows);
     if opening.number != 0 {
         return bench_refuse::opening(bench_refuse::how(request), opening.number, image);

@@ -16,25 +16,17 @@ pub struct Loaded {
     pub length: usize,
 }
 
-// Argument `at` as a file; - is standard input.
-fn open_argument(at: usize) -> i32 {
+// Argument `at` as a file; - is standard input. 0: the sample, as it stands from the top on.
+fn open(at: usize) -> i32 {
+    if at == 0 {
+        return os::open_read(b"samples/rp2350.img");
+    }
     let mut space = io::buffer();
     let n = os::arg(at, &mut space);
     if base::both(n == 1, space[0] == b'-') {
         return libc::STDIN_FILENO;
     }
     os::open_read(&space[..n])
-}
-
-// The file that an argument names; the sample where that is 0, by its own argument or as it stands from the top on.
-fn open(file: usize, sample: usize) -> i32 {
-    if file != 0 {
-        return open_argument(file);
-    }
-    if sample != 0 {
-        return open_argument(sample);
-    }
-    os::open_read(b"samples/rp2350.img")
 }
 
 // Why a call failed just now.
@@ -52,20 +44,15 @@ fn why() -> u8 {
     111
 }
 
-// 117 for a UF2 file, 118 for an ELF file, which both hold a dump in parts; 0 for any other.
-pub fn form_number(image: &[u8]) -> u8 {
+// 117 for a UF2 file, 118 for an ELF file, which both hold a dump in parts; the number that is given for any other.
+pub fn form_number(image: &[u8], other: u8) -> u8 {
     if magic::starts_with(image, b"UF2\n") {
         return 117;
     }
     if magic::starts_with(image, b"\x7fELF") {
         return 118;
     }
-    0
-}
-
-fn too_large(image: &[u8]) -> u8 {
-    let form = form_number(image);
-    if form == 0 { 112 } else { form }
+    other
 }
 
 // What follows what was read: 0 at the end of the file.
@@ -76,7 +63,7 @@ fn after(fd: i32, image: &[u8]) -> u8 {
         return why();
     }
     if got > 0 {
-        return too_large(image);
+        return form_number(image, 112);
     }
     0
 }
@@ -104,7 +91,8 @@ fn read_all(fd: i32, image: &mut [u8]) -> Loaded
 pub fn load(file: usize, sample: usize, image: &mut [u8]) -> Loaded
     ensures { λ r. ⌜ Counts (r .length) (now (image .exit)) ⌝ }
 {
-    let fd = open(file, sample);
+    let at = if file == 0 { sample } else { file };
+    let fd = open(at);
     if fd < 0 {
         return Loaded {
             number: why(),

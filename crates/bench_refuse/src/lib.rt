@@ -64,11 +64,7 @@ fn opening_number(machine: bool, number: u8, image: &[u8]) -> u8 {
     if image.len() == 0 {
         return if machine { number } else { 114 };
     }
-    let form = bench_file::form_number(image);
-    if form != 0 {
-        return form;
-    }
-    number
+    bench_file::form_number(image, number)
 }
 
 // The dump does not open. Here 2 is about the header.

@@ -1,6 +1,6 @@
 // The sets and their ROMs, for a person or for a script.
-use bench_form::form;
-use bench_form::item;
+mod same;
+
 use bench_form::told;
 use bench_out::Out;
 use rows::RomWord;
@@ -8,59 +8,36 @@ use rows::SetWord;
 use sets_item::SetsItem;
 use text::Text;
 
-fn no_name(out: &mut Out, set: u32, k: u32, n: u32) {
+fn rom_name(out: &mut Out, image: &[u8], set: u32, k: u32, name: Text) {
+    let n = name.number as u32;
     told(
         out,
-        b"no name (%_%_%d: %_%_%m)\n|set.%d.rom.%d.name.number %d\nset.%d.rom.%d.name.reason %m\n",
-        &[set, k, n, set, k, n],
+        b"|set.%d.rom.%d.name.number %d\nset.%d.rom.%d.name.",
+        &[set, k, n, set, k],
     );
-}
-
-fn rom_name(out: &mut Out, image: &[u8], set: u32, k: u32, name: Text) {
-    if name.number != 0 {
-        no_name(out, set, k, name.number as u32);
+    if n != 0 {
+        told(out, b"no name (%d: %m)\n|reason %_%m\n", &[n, n]);
         return;
     }
-    told(
-        out,
-        b"file |set.%d.rom.%d.name.number 0\nset.%d.rom.%d.name.text ",
-        &[set, k, set, k],
-    );
+    told(out, b"file |text ", &[]);
     bench_out::shown(out, text::string_part(image, name));
     bench_out::byte(out, b'\n');
 }
 
 // The chip selects: for a person on a line below the name.
-fn selects(out: &mut Out, rom_rows: &[u32], row: u32, set: u32, k: u32) {
+fn rom(out: &mut Out, image: &[u8], rom_rows: &[u32], row: u32, set: u32, k: u32) {
+    let t = rows::rom_word(rom_rows, row, RomWord::Type);
     let c1 = rows::rom_word(rom_rows, row, RomWord::Cs1);
     let c2 = rows::rom_word(rom_rows, row, RomWord::Cs2);
     let c3 = rows::rom_word(rom_rows, row, RomWord::Cs3);
     told(
         out,
-        b"         %_%_CS1 %c, %_%_CS2 %c, %_%_CS3 %c\n|\
+        b"%_  ROM %d: %t, |set.%d.rom.%d.type %t\n\
         set.%d.rom.%d.cs1 %a\nset.%d.rom.%d.cs2 %a\nset.%d.rom.%d.cs3 %a\n",
-        &[set, k, c1, set, k, c2, set, k, c3],
+        &[set, k, t, set, k, c1, set, k, c2, set, k, c3],
     );
-}
-
-fn rom_start(out: &mut Out, rom_rows: &[u32], row: u32, set: u32, k: u32) {
-    let t = rows::rom_word(rom_rows, row, RomWord::Type);
-    told(
-        out,
-        b"%_  ROM %d: %t, |set.%d.rom.%d.type %t\n",
-        &[set, k, t],
-    );
-    if bench_out::is_script(out) {
-        selects(out, rom_rows, row, set, k);
-    }
-}
-
-fn rom(out: &mut Out, image: &[u8], rom_rows: &[u32], row: u32, set: u32, k: u32) {
-    rom_start(out, rom_rows, row, set, k);
     rom_name(out, image, set, k, bench_rows::name_of(rom_rows, row));
-    if !bench_out::is_script(out) {
-        selects(out, rom_rows, row, set, k);
-    }
+    told(out, b"         CS1 %c, CS2 %c, CS3 %c\n", &[c1, c2, c3]);
 }
 
 fn roms(out: &mut Out, image: &[u8], set_rows: &[u32], rom_rows: &[u32], set: u32) {
@@ -73,53 +50,33 @@ fn roms(out: &mut Out, image: &[u8], set_rows: &[u32], rom_rows: &[u32], set: u3
     }
 }
 
-// For a person: further lines where a set has several ROMs, or the dump does not hold all of its bytes.
-fn further_lines(out: &mut Out, set_rows: &[u32], set: u32, data: u32) {
-    if 1 < rows::set_word(set_rows, set, SetWord::RomCount) {
-        let state = rows::set_word(set_rows, set, SetWord::State);
-        form(out, b"  multi-ROM set, CS1 %c\n", &[state]);
-    }
-    if data != 0 {
-        form(out, b"  its data: refused with %d: %w\n", &[data, data]);
-    }
-}
-
-fn set_for_person(out: &mut Out, set_rows: &[u32], set: u32) {
+// Size and data pointer, and for a script whether the dump holds the bytes.
+fn head(out: &mut Out, set_rows: &[u32], set: u32, data: u32) {
     let at = rows::set_word(set_rows, set, SetWord::DataPointer);
     let size = rows::set_word(set_rows, set, SetWord::Size);
-    let count = rows::set_word(set_rows, set, SetWord::RomCount);
-    let serve = rows::set_word(set_rows, set, SetWord::Serve);
-    form(
+    told(
         out,
-        b"set %d: %d bytes at %x, %r, serving %s\n",
-        &[set, size, at, count, serve],
-    );
-}
-
-// Size and data pointer, and whether the dump holds the bytes.
-fn data_for_script(out: &mut Out, set_rows: &[u32], set: u32, data: u32) {
-    let at = rows::set_word(set_rows, set, SetWord::DataPointer);
-    let size = rows::set_word(set_rows, set, SetWord::Size);
-    form(
-        out,
-        b"set.%d.size %d\nset.%d.data %x\nset.%d.data.number %d\n",
+        b"set %d: %d bytes at %_%x, |set.%d.size %d\nset.%d.data %x\nset.%d.data.number %d\n",
         &[set, size, set, at, set, data],
     );
     if data != 0 {
-        form(out, b"set.%d.data.reason %w\n", &[set, data]);
+        told(out, b"|set.%d.data.reason %w\n", &[set, data]);
     }
 }
 
-fn set_for_script(out: &mut Out, set_rows: &[u32], set: u32) {
+// For a person: further lines where a set has several ROMs, or the dump does not hold all of its bytes.
+fn serving(out: &mut Out, set_rows: &[u32], set: u32, data: u32) {
     let count = rows::set_word(set_rows, set, SetWord::RomCount);
     let serve = rows::set_word(set_rows, set, SetWord::Serve);
     let state = rows::set_word(set_rows, set, SetWord::State);
     let config = rows::set_word(set_rows, set, SetWord::Config);
     let overrides = rows::set_word(set_rows, set, SetWord::Overrides);
-    form(
+    told(
         out,
-        b"set.%d.serve %d\nset.%d.multi_rom_state %d\nset.%d.config %x\nset.%d.overrides %x\nset.%d.roms %d\n",
+        b"%r, serving %_%s\n|%_set.%d.serve %d\nset.%d.multi_rom_state %d\n\
+        set.%d.config %x\nset.%d.overrides %x\nset.%d.roms %d\n",
         &[
+            count,
             set,
             serve,
             set,
@@ -132,15 +89,11 @@ fn set_for_script(out: &mut Out, set_rows: &[u32], set: u32) {
             count,
         ],
     );
-}
-
-fn head(out: &mut Out, set_rows: &[u32], set: u32, data: u32) {
-    if bench_out::is_script(out) {
-        data_for_script(out, set_rows, set, data);
-        set_for_script(out, set_rows, set);
-    } else {
-        set_for_person(out, set_rows, set);
-        further_lines(out, set_rows, set, data);
+    if 1 < count {
+        told(out, b"  multi-ROM set, CS1 %c\n", &[state]);
+    }
+    if data != 0 {
+        told(out, b"  its data: refused with %d: %w\n", &[data, data]);
     }
 }
 
@@ -156,58 +109,87 @@ fn set(
 ) -> bool {
     let f = bench_rows::found(image, base, served, set_rows, set);
     head(out, set_rows, set, f.number as u32);
+    serving(out, set_rows, set, f.number as u32);
     roms(out, image, set_rows, rom_rows, set);
     if bench_out::is_script(out) {
-        bench_same::line(out, image, base, served, set_rows, rom_rows, set);
+        same::line(out, image, base, served, set_rows, rom_rows, set);
     }
     f.number == 2
 }
 
-fn all_sets(
+// Every set; or, for a person behind them all, those that are the same as an earlier one. Whether one of them is cut, or is the same.
+fn pass(
     out: &mut Out,
     image: &[u8],
     base: u32,
     served: u32,
     set_rows: &[u32],
     rom_rows: &[u32],
+    is_second: bool,
 ) -> bool {
-    let mut is_cut = false;
+    let mut any = false;
     let mut i = 0;
     while i < served {
-        let one = set(out, image, base, served, set_rows, rom_rows, i);
-        is_cut = base::either(is_cut, one);
+        let one = if is_second {
+            same::line(out, image, base, served, set_rows, rom_rows, i)
+        } else {
+            set(out, image, base, served, set_rows, rom_rows, i)
+        };
+        any = base::either(any, one);
         i += 1;
     }
-    is_cut
+    any
 }
 
-// For a person, behind the label of sets that are accepted.
-fn count_line(out: &mut Out, counted: u32, is_lost: bool) {
-    if is_lost {
-        told(out, b"none can be found without metadata\n", &[]);
+// For a person: a line for each set that is the same as an earlier one, and what that means; or one that says that none are.
+fn same_lines(
+    out: &mut Out,
+    image: &[u8],
+    base: u32,
+    served: u32,
+    set_rows: &[u32],
+    rom_rows: &[u32],
+) {
+    bench_out::byte(out, b'\n');
+    if pass(out, image, base, served, set_rows, rom_rows, true) {
+        told(
+            out,
+            b"(the same: size, ROM count, serving and types agree)\n",
+            &[],
+        );
     } else {
-        told(out, b"%d\n", &[counted]);
+        told(
+            out,
+            b"no two sets are the same in size, ROM count, serving and types\n",
+            &[],
+        );
     }
 }
 
 // A refused walk keeps the count and serves none. is_lost: metadata, which lists the sets, is refused.
 pub fn count(out: &mut Out, sets: SetsItem, is_lost: bool) {
     let counted = sets.rom_set_count as u32;
-    let is_there = item(
-        out,
-        b"Sets               |sets.number %d\n",
-        b"refused with %d: %w\n                   |sets.reason %w\n",
-        sets.number,
-    );
-    told(
-        out,
-        b"|sets.count %d\nsets.served %d\n",
-        &[counted, sets.served],
-    );
-    if is_there {
-        count_line(out, counted, is_lost);
+    let n = sets.number as u32;
+    if n != 0 {
+        told(
+            out,
+            b"Sets               refused with %d: %w\n                   counted %d, served none\n|\
+            sets.number %d\nsets.reason %w\nsets.count %d\nsets.served %d\n",
+            &[n, n, counted, sets.served],
+        );
+    } else if is_lost {
+        told(
+            out,
+            b"Sets               none can be found without metadata\n|\
+            sets.number 0\nsets.count %d\nsets.served %d\n",
+            &[counted, sets.served],
+        );
     } else {
-        told(out, b"counted %d, served none\n", &[counted]);
+        told(
+            out,
+            b"Sets               %d\n|sets.number 0\nsets.count %d\nsets.served %d\n",
+            &[counted, sets.served],
+        );
     }
 }
 
@@ -224,9 +206,9 @@ pub fn sets(
         return false;
     }
     told(out, b"\n", &[]);
-    let is_cut = all_sets(out, image, base, served, set_rows, rom_rows);
-    if !bench_out::is_script(out) {
-        bench_same::lines(out, image, base, served, set_rows, rom_rows);
+    let is_cut = pass(out, image, base, served, set_rows, rom_rows, false);
+    if base::both(1 < served, !bench_out::is_script(out)) {
+        same_lines(out, image, base, served, set_rows, rom_rows);
     }
     is_cut
 }

@@ -1,20 +1,21 @@
 use Prim.Native.Nat.{_≤_, _-_}
 use borrow.Author.Needs.{needs}
-use Rattle.bench_same.proofs.first_same.Statement.{statement}
-use Rattle.bench_same.proofs.first_same.Tie as tie
+use Rattle.bench_sets.proofs.same.names.Statement.{statement}
+use Rattle.bench_sets.proofs.same.names.Tie as tie
 
 abbrev Inv-loop : tie.InvT-loop
-Inv-loop served set-rows rom-rows set a₀ a = a ≤ set
+Inv-loop image set-rows rom-rows a b count k₀ k = k ≤ count
 
 abbrev μ-loop : tie.MeasureT-loop
-μ-loop served set-rows rom-rows set a₀ a = set - a
+μ-loop image set-rows rom-rows a b count k₀ k = count - k
 
-pub first-same-spec : {M : Type 1} → statement M
-first-same-spec =
+pub names-spec : {M : Type 1} → statement M
+names-spec =
     tie.close
     (tie.spec
     Inv-loop
     μ-loop
+    (λ c κs. search needs)
     (λ c. search needs)
     (λ c κs. search needs)
     (λ c. search needs)

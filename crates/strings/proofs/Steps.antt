@@ -18,7 +18,7 @@ use Rattle.text.specs.Text.{acceptedText, bytesOf, beforeNul, judged, textP}
 use Rattle.text.specs.Laws.Nul.{before-front}
 use Rattle.text.specs.Laws.Chunks.{text-accepted}
 use Rattle.text.specs.declared.Text.{Text as Str}
-use Rattle.text.proofs.Steps.{judged-good, rest-start, rest-judged}
+use Rattle.chunks.proofs.Steps.{judged-good, rest-start, rest-judged}
 use Rattle.strings.specs.Code.{asciiFront, ShortAscii}
 use Rattle.strings.specs.Laws.Ascii.{ascii-utf8, ascii-before}
 

@@ -1,5 +1,5 @@
 // The string at a pointer as a report or a row holds it (lib.rs `read_string_at_ptr`), and the quick way for most.
-use text::CHUNK;
+use chunks::CHUNK;
 use text::Text;
 ghost use mathlib.Core.Path.{_≡_};
 ghost use lib.ListN.{length};
@@ -57,7 +57,7 @@ fn read_any_string(image: &[u8], base: u32, ptr: u32) -> Text
     ensures { λ r. ⌜ r ≡ run (textP base ptr) (now (image .entry)) ⌝ }
 {
     let mut number = 0;
-    let part = text::read_string(image, base, ptr, &mut number);
+    let part = chunks::read_string(image, base, ptr, &mut number);
     if number != 0 {
         return refuse(number);
     }

@@ -12,7 +12,7 @@ fn string_at(image: &[u8], base: u32, pointer: u32) -> text::Text
             length: 0,
         };
     }
-    text::read_string_at_ptr(image, base, pointer)
+    strings::read_string_at_ptr(image, base, pointer)
 }
 
 pub fn string_call(image: &[u8], base: u32, pointer: u32, part: &mut [u32; 2]) -> u32

@@ -39,7 +39,7 @@ fn header_at<'a>(w: Window<'a>, info_offset: u32) -> HeaderAnswer
 fn string_at<'a>(w: Window<'a>, ptr: u32) -> Text
     ensures { λ r. ⌜ r ≡ run (textP (w .entry .base) ptr) (now (w .entry .image)) ⌝ }
 {
-    text::read_string_at_ptr(w.image, w.base, ptr)
+    strings::read_string_at_ptr(w.image, w.base, ptr)
 }
 
 fn extra_info_at<'a>(w: Window<'a>, ptr: u32, version: FirmwareVersion) -> ExtraInfoItem

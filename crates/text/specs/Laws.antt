@@ -1,3 +1,2 @@
 pub mod Chunks
 pub mod Nul
-pub mod Ascii

@@ -1,4 +1,3 @@
 pub mod Text
-pub mod Code
 pub mod Laws
 pub mod Examples

@@ -1,36 +1,12 @@
-// Strings of the image (parsing.rs and lib.rs `read_string_at_ptr`).
+// Strings of the image (parsing.rs): their struct, and their part of the image.
 ghost use mathlib.Core.Path.{_≡_};
-ghost use Prim.Native.Nat.{_+_, _≤_};
-ghost use lib.ListN.{length, take, drop};
-ghost use Rattle.window.specs.Window.{canRead};
-ghost use Rattle.prog.specs.Prog.{run};
-ghost use Rattle.text.specs.Text.{refusedText, bytesOf, partOf, beforeNul, judged, textP};
-ghost use Rattle.text.specs.Code.{asciiFront, ShortAscii};
-
-// A string is read in chunks of 64 bytes, at most 1,024.
-const CHUNK: usize = 64;
-
-const LONGEST: usize = 1024;
+ghost use Rattle.text.specs.Text.{partOf};
 
 // An accepted string's part of the image, without its NUL, and number 0; or the refusal's number, with offset and length 0.
 pub struct Text {
     pub number: u8,
     pub offset: u32,
     pub length: u32,
-}
-
-// How many bytes come before the first NUL; all of them where there is none.
-fn before_nul(s: &[u8]) -> usize
-    ensures { λ r. ⌜ r ≡ length (beforeNul (now (s .entry))) ⌝ }
-{
-    let mut i = 0;
-    while i < s.len() {
-        if s[i] == 0 {
-            return i;
-        }
-        i += 1;
-    }
-    i
 }
 
 // The part of the image that a string's offset and length name; an empty part where that does not lie in the image.
@@ -43,129 +19,4 @@ pub fn string_part(image: &[u8], text: Text) -> &[u8]
         return &image[from..to];
     }
     &image[..0]
-}
-
-fn refuse(number: u8) -> Text
-    ensures { λ r. ⌜ r ≡ refusedText number ⌝ }
-{
-    Text {
-        number,
-        offset: 0,
-        length: 0,
-    }
-}
-
-// An empty part, and the refusal's number in the lent word.
-fn no_part<'a>(image: &'a [u8], refusal: u8, number: &mut u8) -> &'a [u8]
-    ensures part { λ r. ⌜ now r ≡ bytesOf (now (image .entry)) (refusedText refusal) ⌝ }
-    ensures number { λ _. ⌜ now (number .exit) ≡ refusal ⌝ }
-{
-    *number = refusal;
-    &image[..0]
-}
-
-// A string whose NUL was found, of n bytes from an offset on.
-fn judge<'a>(image: &'a [u8], offset: usize, n: usize, number: &mut u8) -> &'a [u8]
-    requires { ⌜ offset + n ≤ length (now image) ⌝ }
-    ensures part { λ r. ⌜ now r ≡ bytesOf (now (image .entry)) (judged offset (take n (drop offset (now (image .entry))))) ⌝ }
-    ensures number { λ _. ⌜ now (number .exit) ≡ judged offset (take n (drop offset (now (image .entry)))) .number ⌝ }
-{
-    let part = &image[offset..offset + n];
-    if utf8::is_utf8(part) {
-        *number = 0;
-        return part;
-    }
-    no_part(image, 21, number)
-}
-
-// The string at a pointer, chunk by chunk: each must be wholly readable, and the first NUL ends it. Its part of the image, which is empty where
-// the string is refused, and its number in the lent word.
-pub fn read_string<'a>(image: &'a [u8], base: u32, ptr: u32, number: &mut u8) -> &'a [u8]
-    ensures part { λ r. ⌜ now r ≡ bytesOf (now (image .entry)) (run (textP base ptr) (now (image .entry))) ⌝ }
-    ensures number { λ _. ⌜ now (number .exit) ≡ run (textP base ptr) (now (image .entry)) .number ⌝ }
-{
-    if ptr < base {
-        return no_part(image, 3, number);
-    }
-    let offset = (ptr - base) as usize;
-    let mut n: usize = 0;
-    while n < LONGEST {
-        if !window::can_read(image, base, ptr as u64 + n as u64, CHUNK) {
-            return no_part(image, 2, number);
-        }
-        let at = offset + n;
-        let found = before_nul(&image[at..at + CHUNK]);
-        if found < CHUNK {
-            return judge(image, offset, n + found, number);
-        }
-        n += CHUNK;
-    }
-    no_part(image, 20, number)
-}
-
-// How many bytes at the front are ASCII other than NUL.
-fn ascii_front(s: &[u8]) -> usize
-    ensures { λ r. ⌜ r ≡ length (asciiFront (now (s .entry))) ⌝ }
-{
-    let mut i = 0;
-    while i < s.len() {
-        if base::either(s[i] == 0, 127 < s[i]) {
-            return i;
-        }
-        i += 1;
-    }
-    i
-}
-
-// The length of a string that is ASCII and ends in its first chunk, as most do: its bytes need no second look. A chunk's length for any other.
-fn short_ascii(image: &[u8], base: u32, ptr: u32) -> usize
-    ensures { λ r. ⌜ ShortAscii (now (image .entry)) base ptr r ⌝ }
-{
-    if ptr < base {
-        return CHUNK;
-    }
-    if !window::can_read(image, base, ptr as u64, CHUNK) {
-        return CHUNK;
-    }
-    let offset = (ptr - base) as usize;
-    let n = ascii_front(&image[offset..offset + CHUNK]);
-    if CHUNK <= n {
-        return CHUNK;
-    }
-    if image[offset + n] != 0 {
-        return CHUNK;
-    }
-    n
-}
-
-// Any string, as a report or a row holds it.
-fn read_any_string(image: &[u8], base: u32, ptr: u32) -> Text
-    ensures { λ r. ⌜ r ≡ run (textP base ptr) (now (image .entry)) ⌝ }
-{
-    let mut number = 0;
-    let part = read_string(image, base, ptr, &mut number);
-    if number != 0 {
-        return refuse(number);
-    }
-    Text {
-        number: 0,
-        offset: ptr - base,
-        length: part.len() as u32,
-    }
-}
-
-// The string at a pointer as a report or a row holds it: where its part stands in the image.
-pub fn read_string_at_ptr(image: &[u8], base: u32, ptr: u32) -> Text
-    ensures { λ r. ⌜ r ≡ run (textP base ptr) (now (image .entry)) ⌝ }
-{
-    let n = short_ascii(image, base, ptr);
-    if n < CHUNK {
-        let offset = ptr - base;
-        return Text {
-            number: 0,
-            offset,
-            length: n as u32,
-        };
-    }
-    read_any_string(image, base, ptr)
 }

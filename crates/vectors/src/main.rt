@@ -53,7 +53,7 @@ fn run_record(kind: u8, line: &[u8], image: &[u8]) {
     let base = lines::number(line, 0);
     let at = lines::number(line, 1);
     match kind {
-        b's' => show::text(text::read_string_at_ptr(image, base, at)),
+        b's' => show::text(strings::read_string_at_ptr(image, base, at)),
         b'S' => run_string(image, base, at),
         b'h' => show::header(header_record::retrieve_header(image, base, at)),
         b'm' => show::metadata(metadata::read_one_rom_metadata_header_info(image, base, at)),

@@ -61,7 +61,7 @@ fn rom_name(image: &[u8], base: u32, filenames: bool, s: &[u8]) -> Text
     let ptr = le::u32_at(s, 4);
     let away = base::either(ptr < base, ptr == 4294967295);
     if base::both(filenames, !away) {
-        return text::read_string_at_ptr(image, base, ptr);
+        return strings::read_string_at_ptr(image, base, ptr);
     }
     Text {
         number: 1,

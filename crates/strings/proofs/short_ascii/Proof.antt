@@ -7,10 +7,10 @@ use borrow.Author.Needs.{needs}
 use borrow.Author.Tests.{not-false}
 use Rattle.window.specs.Window.{canRead}
 use Rattle.window.specs.Laws.{true-inside}
-use Rattle.text.specs.Code.{ShortAscii}
-use Rattle.text.proofs.Steps.{short-told, other}
-use Rattle.text.proofs.short_ascii.Statement.{statement}
-use Rattle.text.proofs.short_ascii.Tie as tie
+use Rattle.strings.specs.Code.{ShortAscii}
+use Rattle.strings.proofs.Steps.{short-told, other}
+use Rattle.strings.proofs.short_ascii.Statement.{statement}
+use Rattle.strings.proofs.short_ascii.Tie as tie
 
 returns : tie.Need-returns
 returns c = other _ _ _

@@ -2,10 +2,10 @@ use Prim.Native.Nat.{_+_, _-_, _≤_}
 use native.Mathlib.Omega.{arith}
 use mathlib.Core.Path.{_≡_}
 use lib.ListN.{length, drop}
 use Rattle.text.specs.Text.{beforeNul}
-use Rattle.text.proofs.Steps.{nul-end, nul-here, nul-further}
-use Rattle.text.proofs.before_nul.Statement.{statement}
-use Rattle.text.proofs.before_nul.Tie as tie
+use Rattle.chunks.proofs.Steps.{nul-end, nul-here, nul-further}
+use Rattle.chunks.proofs.before_nul.Statement.{statement}
+use Rattle.chunks.proofs.before_nul.Tie as tie
 
 abbrev Inv-loop : tie.InvT-loop
 Inv-loop s i₀ i = (i ≤ length s) × (length (beforeNul s) ≡ i + length (beforeNul (drop i s)))

@@ -2,11 +2,11 @@ use Prim.Native.Nat.{_≤_, _<_}
 use native.Mathlib.Omega.{arith}
 use mathlib.Core.Path.{_∙_, sym, ap}
 use lib.ListN.{length}
 use Rattle.text.specs.Text.{refusedText}
 use Rattle.text.specs.Laws.Chunks.{text-refused}
-use Rattle.text.proofs.Steps.{made-whole, part-short}
-use Rattle.text.proofs.read_any_string.Statement.{statement}
-use Rattle.text.proofs.read_any_string.Tie as tie
+use Rattle.strings.proofs.Steps.{made-whole, part-short}
+use Rattle.strings.proofs.read_any_string.Statement.{statement}
+use Rattle.strings.proofs.read_any_string.Tie as tie
 
 read-string-requires : tie.Need-read-string-requires
 read-string-requires c κs = tt

@@ -3,10 +3,10 @@ use native.Mathlib.Omega.{arith}
 use mathlib.Core.Path.{_≡_, sym, _∙_}
 use lib.ListN.{length, drop}
 use borrow.Author.Needs.{needs}
-use Rattle.text.specs.Code.{asciiFront}
-use Rattle.text.proofs.Steps.{ascii-end, ascii-here, ascii-further}
-use Rattle.text.proofs.ascii_front.Statement.{statement}
-use Rattle.text.proofs.ascii_front.Tie as tie
+use Rattle.strings.specs.Code.{asciiFront}
+use Rattle.strings.proofs.Steps.{ascii-end, ascii-here, ascii-further}
+use Rattle.strings.proofs.ascii_front.Statement.{statement}
+use Rattle.strings.proofs.ascii_front.Tie as tie
 
 abbrev Inv-loop : tie.InvT-loop
 Inv-loop s i₀ i = (i ≤ length s) × (length (asciiFront s) ≡ i + length (asciiFront (drop i s)))

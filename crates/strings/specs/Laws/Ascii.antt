@@ -12,8 +12,8 @@ use Rattle.base.specs.Laws.{cases, both-false}
 use Rattle.utf8.specs.Rfc3629.{Octet, x00-7F, one}
 use Rattle.utf8.specs.Utf8.{lacking, isUtf8}
 use Rattle.utf8.specs.Laws.Chars.{on-char}
 use Rattle.text.specs.Text.{beforeNul}
-use Rattle.text.specs.Code.{asciiFront}
+use Rattle.strings.specs.Code.{asciiFront}
 
 pub ascii-utf8 : (s : List ℕ) → isUtf8 (asciiFront s) ≡ true
 unfolding asciiFront isUtf8 lacking

@@ -6,10 +6,10 @@ use lib.ListN.{length}
 use borrow.Author.Needs.{needs}
 use borrow.Author.Tests.{not-true, not-false}
 use Rattle.window.specs.Window.{canRead}
 use Rattle.text.specs.Laws.Chunks.{text-below}
-use Rattle.text.proofs.Steps.{Rest, rest-start, rest-full, rest-refused, rest-fits, rest-judged, rest-again, handed-back}
-use Rattle.text.proofs.read_string.Statement.{statement}
-use Rattle.text.proofs.read_string.Tie as tie
+use Rattle.chunks.proofs.Steps.{Rest, rest-start, rest-full, rest-refused, rest-fits, rest-judged, rest-again, handed-back}
+use Rattle.chunks.proofs.read_string.Statement.{statement}
+use Rattle.chunks.proofs.read_string.Tie as tie
 
 abbrev Inv-loop : tie.InvT-loop
 Inv-loop image base ptr number₀ offset n₀ number n = (n ≤ 1024) × Rest image base ptr n

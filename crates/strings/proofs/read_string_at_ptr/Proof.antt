@@ -1,6 +1,6 @@
 use borrow.Author.Needs.{needs}
-use Rattle.text.proofs.read_string_at_ptr.Statement.{statement}
-use Rattle.text.proofs.read_string_at_ptr.Tie as tie
+use Rattle.strings.proofs.read_string_at_ptr.Statement.{statement}
+use Rattle.strings.proofs.read_string_at_ptr.Tie as tie
 
 sub-offset : tie.Need-sub-offset
 sub-offset c = c .before .short-ascii .ensures .from (c .if1 .taken)

@@ -2,9 +2,9 @@ use native.Mathlib.Omega.{arith}
 use mathlib.Core.Path.{_∙_, refl, sym}
 use borrow.Author.Needs.{needs}
 use Rattle.window.specs.Laws.{part}
-use Rattle.text.proofs.Steps.{judged-good, judged-bad, handed-back}
-use Rattle.text.proofs.judge.Statement.{statement}
-use Rattle.text.proofs.judge.Tie as tie
+use Rattle.chunks.proofs.Steps.{judged-good, judged-bad, handed-back}
+use Rattle.chunks.proofs.judge.Statement.{statement}
+use Rattle.chunks.proofs.judge.Tie as tie
 
 returns : tie.Need-returns
 returns c =

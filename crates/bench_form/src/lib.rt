@@ -4,14 +4,13 @@
 //   %l a line             %k a storage code         %K its KiB                %p a port
 //   %o on or off          %f the same as 1 or 0     %w what a number means    %m what a name's number means
 //   %a a chip-select state in one word              %e, %h what a comparison shows, for a person and for a script
-//   %_ nothing: the number is passed over
+//   %_ nothing: the number is passed over           %0, %1 the first number and the second, decimal, once more
 mod names;
 mod table;
 
 use bench_out::Out;
 use table::part;
-ghost use Prim.Native.Nat.{_≤_, _<_};
-ghost use lib.ListN.{length};
+ghost use Prim.Native.Nat.{_+_, _≤_, _<_};
 
 // A number past the end of the list is 0.
 fn number_at(numbers: &[u32], k: usize) -> u32 {
@@ -35,27 +34,34 @@ fn put(out: &mut Out, letter: u8, n: u32) {
     }
 }
 
-// A character of a form, or a mark and its letter: how many bytes that is.
-fn piece(out: &mut Out, form: &[u8], at: usize, n: u32) -> usize
-    requires { ⌜ at < length (now form) ⌝ }
-    ensures { λ r. ⌜ (1 ≤ r) × (r ≤ 2) ⌝ }
+// What a mark with this letter stands for, where number k is the next. Which is the next behind it.
+fn marked(out: &mut Out, letter: u8, numbers: &[u32], k: usize) -> usize
+    requires { ⌜ k < 18446744073709551615 ⌝ }
+    ensures { λ r. ⌜ r ≤ k + 1 ⌝ }
 {
-    let b = form[at];
-    if b != b'%' {
-        bench_out::byte(out, b);
-        return 1;
+    if letter == b'0' {
+        bench_out::number(out, number_at(numbers, 0));
+        return k;
     }
-    put(out, le::u8_at(form, at + 1), n);
-    2
+    if letter == b'1' {
+        bench_out::number(out, number_at(numbers, 1));
+        return k;
+    }
+    put(out, letter, number_at(numbers, k));
+    k + 1
 }
 
 pub fn form(out: &mut Out, form: &[u8], numbers: &[u32]) {
     let mut at = 0;
     let mut k = 0;
     while at < form.len() {
-        let n = piece(out, form, at, number_at(numbers, k));
-        k += n - 1;
-        at += n;
+        if form[at] == b'%' {
+            k = marked(out, le::u8_at(form, at + 1), numbers, k);
+            at += 2;
+        } else {
+            bench_out::byte(out, form[at]);
+            at += 1;
+        }
     }
 }
 
@@ -68,15 +74,4 @@ pub fn choice(out: &mut Out, forms: &[u8], k: u8, numbers: &[u32]) {
 // The form for a person or, behind a bar, the one for a script.
 pub fn told(out: &mut Out, forms: &[u8], numbers: &[u32]) {
     choice(out, forms, 0, numbers);
-}
-
-// The start of an item, with its number for a script; then what a refusal means. Whether it is accepted.
-pub fn item(out: &mut Out, start: &[u8], refusal: &[u8], number: u8) -> bool {
-    let n = number as u32;
-    told(out, start, &[n]);
-    if n == 0 {
-        return true;
-    }
-    told(out, refusal, &[n, n]);
-    false
 }

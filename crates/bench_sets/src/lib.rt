@@ -1,6 +1,7 @@
 // The sets and their ROMs, for a person or for a script.
 mod same;
 
+use bench_form::choice;
 use bench_form::told;
 use bench_out::Out;
 use rows::RomWord;
@@ -10,16 +11,16 @@ use text::Text;
 
 fn rom_name(out: &mut Out, image: &[u8], set: u32, k: u32, name: Text) {
     let n = name.number as u32;
-    told(
+    choice(
         out,
-        b"|set.%d.rom.%d.name.number %d\nset.%d.rom.%d.name.",
-        &[set, k, n, set, k],
+        b"file |%_%_set.%0.rom.%1.name.number %d\nset.%0.rom.%1.name.text |\
+        no name (%_%_%d: %m)\n|%_%_set.%0.rom.%1.name.number %d\nset.%0.rom.%1.name.reason %m\n",
+        (n != 0) as u8,
+        &[set, k, n, n],
     );
     if n != 0 {
-        told(out, b"no name (%d: %m)\n|reason %_%m\n", &[n, n]);
         return;
     }
-    told(out, b"file |text ", &[]);
     bench_out::shown(out, text::string_part(image, name));
     bench_out::byte(out, b'\n');
 }
@@ -32,9 +33,9 @@ fn rom(out: &mut Out, image: &[u8], rom_rows: &[u32], row: u32, set: u32, k: u32
     let c3 = rows::rom_word(rom_rows, row, RomWord::Cs3);
     told(
         out,
-        b"%_  ROM %d: %t, |set.%d.rom.%d.type %t\n\
-        set.%d.rom.%d.cs1 %a\nset.%d.rom.%d.cs2 %a\nset.%d.rom.%d.cs3 %a\n",
-        &[set, k, t, set, k, c1, set, k, c2, set, k, c3],
+        b"  ROM %1: %_%_%t, |%_%_set.%0.rom.%1.type %t\n\
+        set.%0.rom.%1.cs1 %a\nset.%0.rom.%1.cs2 %a\nset.%0.rom.%1.cs3 %a\n",
+        &[set, k, t, c1, c2, c3],
     );
     rom_name(out, image, set, k, bench_rows::name_of(rom_rows, row));
     told(out, b"         CS1 %c, CS2 %c, CS3 %c\n", &[c1, c2, c3]);
@@ -56,8 +57,8 @@ fn head(out: &mut Out, set_rows: &[u32], set: u32, data: u32) {
     let size = rows::set_word(set_rows, set, SetWord::Size);
     told(
         out,
-        b"set %d: %d bytes at %_%x, |set.%d.size %d\nset.%d.data %x\nset.%d.data.number %d\n",
-        &[set, size, set, at, set, data],
+        b"set %d: %d bytes at %x, |set.%d.size %d\nset.%0.data %x\nset.%0.data.number %d\n",
+        &[set, size, at, data],
     );
     if data != 0 {
         told(out, b"|set.%d.data.reason %w\n", &[set, data]);
@@ -73,21 +74,9 @@ fn serving(out: &mut Out, set_rows: &[u32], set: u32, data: u32) {
     let overrides = rows::set_word(set_rows, set, SetWord::Overrides);
     told(
         out,
-        b"%r, serving %_%s\n|%_set.%d.serve %d\nset.%d.multi_rom_state %d\n\
-        set.%d.config %x\nset.%d.overrides %x\nset.%d.roms %d\n",
-        &[
-            count,
-            set,
-            serve,
-            set,
-            state,
-            set,
-            config,
-            set,
-            overrides,
-            set,
-            count,
-        ],
+        b"%_%r, serving %s\n|%_%_set.%0.serve %d\nset.%0.multi_rom_state %d\n\
+        set.%0.config %x\nset.%0.overrides %x\nset.%0.roms %1\n",
+        &[set, count, serve, state, config, overrides],
     );
     if 1 < count {
         told(out, b"  multi-ROM set, CS1 %c\n", &[state]);
@@ -151,46 +140,31 @@ fn same_lines(
     rom_rows: &[u32],
 ) {
     bench_out::byte(out, b'\n');
-    if pass(out, image, base, served, set_rows, rom_rows, true) {
-        told(
-            out,
-            b"(the same: size, ROM count, serving and types agree)\n",
-            &[],
-        );
-    } else {
-        told(
-            out,
-            b"no two sets are the same in size, ROM count, serving and types\n",
-            &[],
-        );
-    }
+    let is_any = pass(out, image, base, served, set_rows, rom_rows, true);
+    choice(
+        out,
+        b"no two sets are the same in size, ROM count, serving and types\n||\
+        (the same: size, ROM count, serving and types agree)\n",
+        is_any as u8,
+        &[],
+    );
 }
 
 // A refused walk keeps the count and serves none. is_lost: metadata, which lists the sets, is refused.
 pub fn count(out: &mut Out, sets: SetsItem, is_lost: bool) {
     let counted = sets.rom_set_count as u32;
     let n = sets.number as u32;
-    if n != 0 {
-        told(
-            out,
-            b"Sets               refused with %d: %w\n                   counted %d, served none\n|\
-            sets.number %d\nsets.reason %w\nsets.count %d\nsets.served %d\n",
-            &[n, n, counted, sets.served],
-        );
-    } else if is_lost {
-        told(
-            out,
-            b"Sets               none can be found without metadata\n|\
-            sets.number 0\nsets.count %d\nsets.served %d\n",
-            &[counted, sets.served],
-        );
-    } else {
-        told(
-            out,
-            b"Sets               %d\n|sets.number 0\nsets.count %d\nsets.served %d\n",
-            &[counted, sets.served],
-        );
-    }
+    let lost = if is_lost { 2 } else { 0 };
+    choice(
+        out,
+        b"Sets               %_%_%d\n|sets.number %d\n%_sets.count %d\nsets.served %d\n|\
+        Sets               refused with %d: %w\n                   counted %d, served none\n|\
+        sets.number %d\nsets.reason %w\nsets.count %d\nsets.served %d\n|\
+        Sets               none can be found without metadata\n|\
+        sets.number %d\n%_sets.count %d\nsets.served %d\n",
+        if n != 0 { 1 } else { lost },
+        &[n, n, counted, sets.served],
+    );
 }
 
 // Whether a set's bytes run past the dump's end. base: the address of the dump's first byte.

@@ -88,9 +88,9 @@ pub(crate) fn line(
     let bytes = bytes(image, base, served, set_rows, first, set);
     told(
         out,
-        b"%_sets %d and %d are the same (names %e; stored bytes %_%e)\n|\
-        set.%d.same_as %d\nset.%d.same_as.names %h\nset.%d.same_as.bytes %h\n",
-        &[set, first, set, names, set, bytes],
+        b"sets %1 and %0 are the same (names %_%_%e; stored bytes %e)\n|\
+        set.%d.same_as %d\nset.%0.same_as.names %h\nset.%0.same_as.bytes %h\n",
+        &[set, first, names, bytes],
     );
     true
 }

@@ -17,10 +17,15 @@ form-spec =
     Inv-loop
     μ-loop
     (λ c. search needs)
+    (λ c. search needs)
+    (λ c. search needs)
     (λ c κs. search needs)
     (λ c κs. search needs)
     (λ c. search needs)
     (λ c. search needs)
+    (λ c. search needs)
+    (λ c. search needs)
+    (λ c κs. search needs)
     (λ c. search needs)
     (λ c. search needs)
     (λ c. search needs)

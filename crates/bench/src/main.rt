@@ -3,56 +3,6 @@
 mod help;
 
 use bench_args::Request;
-use bench_form::told;
-use bench_out::Out;
-use bench_refuse::Asked;
-use sdrr_info::SdrrInfo;
-
-// The first line. The sample is no board of the caller's: it says so.
-fn heading(out: &mut Out, file: usize, length: usize) {
-    if !bench_out::is_script(out) {
-        bench_out::file_name(out, file);
-    }
-    if file == 0 {
-        told(out, b", the sample board|ok\ndump.sample 1\n", &[]);
-    } else {
-        told(out, b"|ok\n", &[]);
-    }
-    let n = (length % 4294967296) as u32;
-    told(out, b": a One ROM board, %d bytes\n|dump.bytes %d\n", &[n]);
-}
-
-// The sets; and the hint where something does not lie within the dump.
-fn sets(
-    out: &mut Out,
-    image: &[u8],
-    base: u32,
-    info: SdrrInfo,
-    set_rows: &[u32],
-    rom_rows: &[u32],
-) {
-    let item = info.rom_sets;
-    bench_sets::count(out, item, bench_report::lacks_metadata(info));
-    let is_cut = bench_sets::sets(out, image, base, item.served, set_rows, rom_rows);
-    if base::either(is_cut, bench_report::is_cut(info)) {
-        bench_report::cut_note(out);
-    }
-}
-
-fn report(
-    how: Asked,
-    image: &[u8],
-    base: u32,
-    info: SdrrInfo,
-    set_rows: &[u32],
-    rom_rows: &[u32],
-) -> u8 {
-    let mut out = bench_out::to(1, how.machine);
-    heading(&mut out, how.file, image.len());
-    bench_report::records(&mut out, image, info);
-    sets(&mut out, image, base, info, set_rows, rom_rows);
-    bench_refuse::end(how, &mut out)
-}
 
 fn open(request: Request, image: &[u8]) -> u8 {
     let mut set_rows = bench_rows::set_space();
@@ -64,7 +14,7 @@ fn open(request: Request, image: &[u8]) -> u8 {
     }
     let info = opening.info;
     let base = bench_rows::base_of(sdrr_info::board(settings, info));
-    report(
+    bench_page::report(
         bench_refuse::how(request),
         image,
         base,

@@ -7,8 +7,11 @@ mod pin_lines;
 use bench_form::choice;
 use bench_form::told;
 use bench_out::Out;
+use extra_info::ExtraInfoItem;
+use header::SdrrInfoFields;
 use metadata::MetadataItem;
-use sdrr_info::SdrrInfo;
+use pins::PinsItem;
+use sets_item::SetsItem;
 use text::Text;
 
 // Which pair of an item's forms: 0 accepted, 1 refused, 2 refused in a case of its own.
@@ -51,20 +54,22 @@ fn metadata(out: &mut Out, m: MetadataItem) {
 }
 
 // Whether metadata was looked for and refused: then no set can be found.
-pub fn lacks_metadata(info: SdrrInfo) -> bool {
-    let m = info.metadata;
+pub fn lacks_metadata(m: MetadataItem) -> bool {
     let number = metadata_number(m);
     outcome(number, number == 255) == 1
 }
 
-pub fn records(out: &mut Out, image: &[u8], info: SdrrInfo) {
-    let f = info.fields;
+pub fn records(
+    out: &mut Out,
+    image: &[u8],
+    f: SdrrInfoFields,
+    date: Text,
+    rev: Text,
+    e: ExtraInfoItem,
+    p: PinsItem,
+    m: MetadataItem,
+) {
     let v = f.version;
-    let date = info.build_date;
-    let rev = info.hw_rev;
-    let e = info.extra_info;
-    let p = info.pins;
-    let m = info.metadata;
     header_lines::firmware(out, f);
     words(
         out,
@@ -87,11 +92,7 @@ pub fn records(out: &mut Out, image: &[u8], info: SdrrInfo) {
 }
 
 // Whether a text, the pins or the sets do not all lie within the dump. (Sets are marked so too where metadata is.)
-pub fn is_cut(info: SdrrInfo) -> bool {
-    let date = info.build_date;
-    let rev = info.hw_rev;
-    let p = info.pins;
-    let s = info.rom_sets;
+pub fn is_cut(date: Text, rev: Text, p: PinsItem, s: SetsItem) -> bool {
     if date.number == 2 {
         return true;
     }

@@ -24,7 +24,7 @@ accepted : (c : tie.Else1) → (c .before .before .before .before .args .base �
 accepted c = part-short _ _ _ _ (c .before .read-string .ensures .0) (sym (c .before .read-string .ensures .1) ∙ c .if1 .left)
 
 sub-t10 : tie.Need-sub-t10
-sub-t10 c = accepted c .0
+sub-t10 c = omega (arith, accepted c .0)
 
 cast-t12 : tie.Need-cast-t12
 cast-t12 c = record { fits = omega (arith, accepted c .1) }

@@ -1,8 +1,8 @@
--- Document 01, "Lent rows": what mangling goes by of the rows as lent, altered or not.
+-- Document 01, "Lent rows", and document 02, wish 1: what mangling goes by of the rows as lent, altered or not.
 use Prim.Native.Nat.{ℕ}
 use mathlib.Core.Bool.{Bool, not, _&&_}
 use mathlib.Core.List.{List}
-use lib.Dec.{eqb}
+use lib.Dec.{leb, eqb}
 use Rattle.base.specs.Choice.{pick}
 use Rattle.types.specs.declared.SdrrRomType.{SdrrRomType}
 use Rattle.types.specs.Types.{romTypeOf}
@@ -27,3 +27,10 @@ governing sets roms i =
 -- Set 0 governs, whichever set is then read. 70: no pins. 71: no sets. Then 4.
 unfoldable pub governingSet0 : (pinsNumber served : ℕ) → (sets roms : List ℕ) → GoverningSet
 governingSet0 pinsNumber served sets roms = pick (not (eqb pinsNumber 0)) (ungoverned 70) (pick (eqb served 0) (ungoverned 71) (governing sets roms 0))
+
+-- Wish 1: the named set governs. 80: no such set. 4: its row or its first ROM row. Then 70: no pins.
+unfoldable pub governingOwn : (pinsNumber served : ℕ) → (sets roms : List ℕ) → (set : ℕ) → GoverningSet
+governingOwn pinsNumber served sets roms set =
+    pick (leb served set) (ungoverned 80)
+    (pick (not (eqb (governing sets roms set .number) 0)) (governing sets roms set)
+    (pick (not (eqb pinsNumber 0)) (ungoverned 70) (governing sets roms set)))

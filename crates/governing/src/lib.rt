@@ -1,10 +1,10 @@
-// What mangling goes by of the rows as lent: set 0 governs, whichever set is then read.
+// What mangling goes by of the rows as lent: set 0 governs, whichever set is then read; or, in a read by the set's own ROMs, the named set.
 use rows::SetWord;
 use types::SdrrRomType;
 ghost use mathlib.Core.Path.{_≡_};
-ghost use Rattle.governing.specs.Governing.{ungoverned, lacksFirstRom, governing, governingSet0};
+ghost use Rattle.governing.specs.Governing.{ungoverned, lacksFirstRom, governing, governingSet0, governingOwn};
 
-// What mangling goes by of the rows: a set's ROM count and first type; or 70, 71 or 4, with none.
+// What mangling goes by of the rows: a set's ROM count and first type; or 70, 71, 80 or 4, with none.
 pub struct GoverningSet {
     pub number: u8,
     pub rom_count: u32,
@@ -65,4 +65,27 @@ pub fn governing_set_0(
         return ungoverned_by(71);
     }
     governing(set_rows, rom_rows, 0)
+}
+
+// The named set governs: 80 and 4 before the pins are looked at, and no row of set 0's unless it is named.
+pub fn governing_own(
+    pins_number: u8,
+    served: u32,
+    set_rows: &[u32],
+    rom_rows: &[u32],
+    set: u32,
+) -> GoverningSet
+    ensures { λ r. ⌜ r ≡ governingOwn «pins_number» served (now («set_rows» .entry)) (now («rom_rows» .entry)) «set» ⌝ }
+{
+    if served <= set {
+        return ungoverned_by(80);
+    }
+    let own = governing(set_rows, rom_rows, set);
+    if own.number != 0 {
+        return own;
+    }
+    if pins_number != 0 {
+        return ungoverned_by(70);
+    }
+    own
 }

@@ -1,4 +1,4 @@
--- Document 01, "Lent rows": later calls go by the report and rows as lent, altered or not.
+-- Document 01, "Lent rows", and document 02, wish 1: later calls go by the report and rows as lent, altered or not.
 use Prim.Native.Nat.{ℕ}
 use mathlib.Core.Bool.{not}
 use mathlib.Core.List.{List}
@@ -10,7 +10,7 @@ use Rattle.board.specs.declared.BoardPins.{BoardPins}
 pub use Rattle.rows.specs.LentRows.{hasSetRow, hasRomRow, setWord, dataPointer, sizeOf, firstRom, romCount, serveOf, typeWord, badRomRow, setNumber}
 use Rattle.board.specs.declared.Board.{Board}
 use Rattle.governing.specs.declared.GoverningSet.{GoverningSet}
-use Rattle.governing.specs.Governing.{governingSet0}
+use Rattle.governing.specs.Governing.{governingSet0, governingOwn}
 use Rattle.mangle.specs.declared.Mangled.{Mangled}
 use Rattle.demangle.specs.declared.Demangled.{Demangled}
 use Rattle.mangle.specs.Mangle.{mangleCore}
@@ -28,6 +28,10 @@ mangledBy g pins address levels =
 
 unfoldable pub mangleAddress : BoardPins → (served : ℕ) → (sets roms : List ℕ) → ℕ → SdrrCsSet → Mangled
 mangleAddress pins served sets roms address levels = mangledBy (governingSet0 (pins .number) served sets roms) pins address levels
+
+-- Wish 1: by the named set's own ROMs
+unfoldable pub mangleOwn : BoardPins → (served : ℕ) → (sets roms : List ℕ) → (set : ℕ) → ℕ → SdrrCsSet → Mangled
+mangleOwn pins served sets roms set address levels = mangledBy (governingOwn (pins .number) served sets roms set) pins address levels
 
 -- 70: no pins. Then 79.
 abbrev pub demangledBy : (number : ℕ) → (dataPins : List ℕ) → ℕ → Demangled

@@ -1,4 +1,4 @@
--- Document 01, "ROM data" and the byte reads.
+-- Document 01, "ROM data" and the byte reads; document 02, wish 1.
 use Prim.Native.Nat.{ℕ, _+_}
 use mathlib.Core.Bool.{Bool, true, false, not}
 use mathlib.Core.List.{List, [], _∷_}
@@ -13,7 +13,7 @@ use Rattle.demangle.specs.declared.Demangled.{Demangled}
 use Rattle.info.specs.declared.SdrrAddress.{SdrrAddress}
 pub use Rattle.set_data.specs.Data.{Bytes, noBytes}
 unfoldable pub use Rattle.set_data.specs.Data.{dataP}
-use Rattle.info.specs.Lent.{Lent, mangleAddress, demangleByte}
+use Rattle.info.specs.Lent.{Lent, mangleAddress, mangleOwn, demangleByte}
 
 -- ---- behind the bytes that ROM data gives (set_data/Data): the count, demangling
 
@@ -31,20 +31,26 @@ shownByte l true b =
 
 -- ---- the reads
 
--- a range of a set; or one byte of it, by its address, demangled or raw
+-- a range of a set; one byte of it, by its address, demangled or raw; or (wish 1) by the set's own ROMs the byte at a logical address, demangled
 pub data RomRead : Type 0 where
   range : (set offset n : ℕ) → RomRead
   byte : (set : ℕ) → SdrrAddress → (demangled : Bool) → RomRead
+  own : (set address : ℕ) → SdrrCsSet → RomRead
 
 -- the length is the lent buffer's, 1 for a byte read
 abbrev pub lengthOf : RomRead → ℕ
 lengthOf (range set offset n) = n
 lengthOf (byte set a demangled) = 1
+lengthOf (own set address levels) = 1
 
 -- a logical address runs mangling first; a raw address skips it
 abbrev pub physical : Lent → SdrrAddress → Mangled
 physical l (SdrrAddress.Raw offset) = record { number = 0; value = offset }
 physical l (SdrrAddress.Logical address levels) = mangleAddress (l .pins) (l .served) (l .setWords) (l .romWords) address levels
+
+-- in a read by the set's own ROMs the named set governs
+abbrev pub ownPhysical : Lent → (set address : ℕ) → SdrrCsSet → Mangled
+ownPhysical l set address levels = mangleOwn (l .pins) (l .served) (l .setWords) (l .romWords) set address levels
 
 abbrev pub byteP : ℕ → Lent → ℕ → Mangled → Prog Bytes
 byteP base l set m = pick (eqb (m .number) 0) (dataP base (l .served) (l .setWords) set (m .value) 1) (done (noBytes (m .number)))
@@ -53,11 +59,13 @@ byteP base l set m = pick (eqb (m .number) 0) (dataP base (l .served) (l .setWor
 unfoldable pub storedP : ℕ → Lent → RomRead → Prog Bytes
 storedP base l (range set offset n) = dataP base (l .served) (l .setWords) set offset n
 storedP base l (byte set a demangled) = byteP base l set (physical l a)
+storedP base l (own set address levels) = byteP base l set (ownPhysical l set address levels)
 
 -- then 82, then demangling
 abbrev pub shownOf : Lent → RomRead → Bytes → Bytes
 shownOf l (range set offset n) b = b
 shownOf l (byte set a demangled) b = shownByte l demangled b
+shownOf l (own set address levels) b = shownByte l true b
 
 unfoldable pub finished : Lent → ℕ → RomRead → Bytes → Bytes
 finished l count r b =

@@ -1,11 +1,11 @@
-// The calls on an opened board (info.rs): mangling by set 0, demangling. They go by the report and rows as lent.
+// The calls on an opened board (info.rs): mangling by set 0 or by the named set, demangling. They go by the report and rows as lent.
 use board::BoardPins;
 use demangle::Demangled;
 use governing::GoverningSet;
 use mangle::Mangled;
 use types::SdrrCsSet;
 ghost use mathlib.Core.Path.{_≡_};
-ghost use Rattle.info.specs.Lent.{unmangled, mangledBy, mangleAddress, demangledBy, demangleByte};
+ghost use Rattle.info.specs.Lent.{unmangled, mangledBy, mangleAddress, mangleOwn, demangledBy, demangleByte};
 
 // An address in a set: a raw offset, or a logical address with its levels.
 pub enum SdrrAddress {
@@ -41,6 +41,22 @@ pub fn mangle_address(
     ensures { λ r. ⌜ r ≡ mangleAddress pins served (now («set_rows» .entry)) (now («rom_rows» .entry)) address «cs_set» ⌝ }
 {
     let g = governing::governing_set_0(pins.number, served, set_rows, rom_rows);
+    mangle_by(g, pins, address, cs_set)
+}
+
+// By the named set's own ROMs.
+pub fn mangle_own(
+    pins: BoardPins,
+    served: u32,
+    set_rows: &[u32],
+    rom_rows: &[u32],
+    set: u32,
+    address: u32,
+    cs_set: SdrrCsSet,
+) -> Mangled
+    ensures { λ r. ⌜ r ≡ mangleOwn pins served (now («set_rows» .entry)) (now («rom_rows» .entry)) «set» address «cs_set» ⌝ }
+{
+    let g = governing::governing_own(pins.number, served, set_rows, rom_rows, set);
     mangle_by(g, pins, address, cs_set)
 }
 

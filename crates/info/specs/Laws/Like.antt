@@ -8,18 +8,22 @@ use mathlib.Core.Bool.{Bool, true, false, not, _&&_, _||_}
 use mathlib.Core.List.{List}
 use lib.Dec.{ltb, leb, eqb}
 use lib.ListN.{length, getD}
-use borrow.Author.Tests.{eqb-true, ne-eqb, eq-eqb, le-leb}
-use Rattle.base.specs.Laws.{clash}
+use borrow.Author.Tests.{eqb-true, eqb-false, ne-eqb, eq-eqb, le-leb}
+use Rattle.base.specs.Laws.{cases, clash}
 use Rattle.base.specs.Choice.{pick}
 use Rattle.prog.specs.Prog.{Prog, done, run, mapP}
 use Rattle.prog.specs.Laws.Run.{run-done, run-map}
 use Rattle.prog.specs.Laws.Honest.{Honest, honest-done, honest-fetch, honest-pick, honest-map, honesty}
 use Rattle.types.specs.declared.SdrrCsSet.{SdrrCsSet}
-use Rattle.governing.specs.Governing.{governing, governingSet0}
+use Rattle.governing.specs.Governing.{governing, governingSet0, governingOwn}
+use Rattle.governing.specs.Laws.{own-governs}
+use Rattle.governing.specs.declared.GoverningSet.{GoverningSet}
+use Rattle.board.specs.declared.BoardPins.{BoardPins}
 use Rattle.mangle.specs.declared.Mangled.{Mangled}
+use Rattle.info.specs.Laws.Steps.{not-governed}
 use Rattle.info.specs.declared.SdrrAddress.{SdrrAddress}
-use Rattle.info.specs.Lent.{Lent, firstRom, typeWord, setNumber, mangledBy, mangleAddress, demangleByte}
-use Rattle.info.specs.Reads.{Bytes, noBytes, dataP, shownByte, RomRead, range, byte, physical, byteP, storedP, shownOf, countNumber, lengthOf, finished, readP}
+use Rattle.info.specs.Lent.{Lent, firstRom, typeWord, setNumber, mangledBy, mangleAddress, mangleOwn, demangleByte}
+use Rattle.info.specs.Reads.{Bytes, noBytes, dataP, shownByte, RomRead, range, byte, own, physical, ownPhysical, byteP, storedP, shownOf, countNumber, lengthOf, finished, readP}
 
 -- the same line, sets and types; pins the same unless they ended
 pub record Like (l m : Lent) : Type 0 where
@@ -52,6 +56,13 @@ byte-address l base set a x e = go (eqb (a .number) 0) refl e
     go true h i = eqb-true (a .number) 0 h
     go false h i = i
 
+-- an accepted mangling is governed
+mangled-governed : (g : GoverningSet) (pins : BoardPins) (address : ℕ) (levels : SdrrCsSet) → mangledBy g pins address levels .number ≡ 0 → g .number ≡ 0
+mangled-governed g pins address levels e =
+    cases (eqb (g .number) 0)
+    (λ h. eqb-true (g .number) 0 h)
+    (λ h. let none = eqb-false (g .number) 0 h in absurd (none (ap (λ (t : Mangled). t .number) (sym (not-governed g pins address levels none)) ∙ e)))
+
 module _ {l m : Lent} (like : Like l m) where
   -- an accepted mangling has accepted pins
   mangle-pins : (address : ℕ) (levels : SdrrCsSet) → mangleAddress (l .pins) (l .served) (l .setWords) (l .romWords) address levels .number ≡ 0 → l .pins ≡ m .pins
@@ -64,6 +75,21 @@ module _ {l m : Lent} (like : Like l m) where
   mangle-like address levels e =
       let p = mangle-pins address levels e in
       let t = like .types (firstRom (l .setWords) 0) in
+      rw (t, like .rom-rows, like .set-words, like .served, p)
+
+  -- by the set's own ROMs too
+  own-pins : (set address : ℕ) (levels : SdrrCsSet) → ownPhysical l set address levels .number ≡ 0 → l .pins ≡ m .pins
+  unfolding mangleOwn
+  own-pins set address levels e =
+      let g = governingOwn (l .pins .number) (l .served) (l .setWords) (l .romWords) set in
+      let pins = own-governs (l .pins .number) (l .served) (l .setWords) (l .romWords) set (mangled-governed g (l .pins) address levels e) .accepted-pins in
+      ⊎-elim (λ (h : l .pins .number ≡ 2). absurd (omega arith)) (λ h. h) (like .pins)
+
+  own-like : (set address : ℕ) (levels : SdrrCsSet) → ownPhysical l set address levels .number ≡ 0 → ownPhysical l set address levels ≡ ownPhysical m set address levels
+  unfolding mangleOwn mangledBy governingOwn governing
+  own-like set address levels e =
+      let p = own-pins set address levels e in
+      let t = like .types (firstRom (l .setWords) set) in
       rw (t, like .rom-rows, like .set-words, like .served, p)
 
   -- demangling goes by the pins alone
@@ -85,19 +111,23 @@ module _ {l m : Lent} (like : Like l m) where
   stored-like base (byte set (SdrrAddress.Logical address levels) d) x e =
       let accepted = byte-address l base set (mangleAddress (l .pins) (l .served) (l .setWords) (l .romWords) address levels) x e in
       rw (mangle-like address levels accepted, data-like base set (mangleAddress (m .pins) (m .served) (m .setWords) (m .romWords) address levels .value) 1)
+  stored-like base (own set address levels) x e =
+      let accepted = byte-address l base set (ownPhysical l set address levels) x e in
+      rw (own-like set address levels accepted, data-like base set (ownPhysical m set address levels .value) 1)
+
+  demangled-like : (b : Bytes) → shownByte l true b .number ≡ 0 → shownByte l true b ≡ shownByte m true b
+  unfolding shownByte
+  demangled-like b e =
+      cases (eqb (demangleByte (l .pins) (getD (b .bytes) 0 0) .number) 0)
+      (λ h. rw (demangle-like (getD (b .bytes) 0 0) (eqb-true _ 0 h)))
+      (λ h. absurd (eqb-false _ 0 h (rw h at e)))
 
   shown-like : (r : RomRead) (b : Bytes) → shownOf l r b .number ≡ 0 → shownOf l r b ≡ shownOf m r b
   unfolding shownByte
   shown-like (range set offset n) b e = refl
   shown-like (byte set a false) b e = refl
-  shown-like (byte set a true) b e = go (eqb (demangleByte (l .pins) (getD (b .bytes) 0 0) .number) 0) refl
-    where
-      go : (c : Bool) → eqb (demangleByte (l .pins) (getD (b .bytes) 0 0) .number) 0 ≡ c → shownOf l (byte set a true) b ≡ shownOf m (byte set a true) b
-      go true h = rw (demangle-like (getD (b .bytes) 0 0) (eqb-true _ 0 h))
-      go false h =
-          let i : demangleByte (l .pins) (getD (b .bytes) 0 0) .number ≡ 0 = rw h at e in
-          let z : eqb (demangleByte (l .pins) (getD (b .bytes) 0 0) .number) 0 ≡ true = eq-eqb _ 0 i in
-          clash (cc)
+  shown-like (byte set a true) b e = demangled-like b e
+  shown-like (own set address levels) b e = demangled-like b e
 
   finished-like : (count : ℕ) (r : RomRead) (b : Bytes) → finished l count r b .number ≡ 0 → finished l count r b ≡ finished m count r b
   unfolding finished
@@ -128,10 +158,14 @@ data-honest : (base : ℕ) (l : Lent) (set offset n : ℕ) → Honest EndedBytes
 unfolding dataP
 data-honest base l set offset n = search honesty
 
+byte-honest : (base : ℕ) (l : Lent) (set : ℕ) (a : Mangled) → Honest EndedBytes (byteP base l set a)
+byte-honest base l set a = honest-pick (eqb (a .number) 0) (data-honest base l set (a .value) 1) honest-done
+
 stored-honest : (base : ℕ) (l : Lent) (r : RomRead) → Honest EndedBytes (storedP base l r)
 unfolding storedP
 stored-honest base l (range set offset n) = data-honest base l set offset n
-stored-honest base l (byte set a d) = honest-pick (eqb (physical l a .number) 0) (data-honest base l set (physical l a .value) 1) honest-done
+stored-honest base l (byte set a d) = byte-honest base l set (physical l a)
+stored-honest base l (own set address levels) = byte-honest base l set (ownPhysical l set address levels)
 
 pub read-honest : (base : ℕ) (l : Lent) (count : ℕ) (r : RomRead) → Honest EndedBytes (readP base l count r)
 unfolding readP
@@ -141,14 +175,17 @@ data-unserved : (base : ℕ) (l : Lent) (set offset n : ℕ) (x : List ℕ) → 
 unfolding dataP run
 data-unserved base l set offset n x e = rw (e, le-leb 0 set (omega arith)) refl
 
+byte-unserved : (base : ℕ) (l : Lent) (set : ℕ) (a : Mangled) (x : List ℕ) → l .served ≡ 0 → run (byteP base l set a) x .number ≡ 0 → ⊥
+byte-unserved base l set a x e h =
+    let z = data-unserved base l set (a .value) 1 x e in
+    let d : run (dataP base (l .served) (l .setWords) set (a .value) 1) x .number ≡ 0 = rw (eq-eqb (a .number) 0 (byte-address l base set a x h)) at h in
+    omega arith
+
 stored-unserved : (base : ℕ) (l : Lent) (r : RomRead) (x : List ℕ) → l .served ≡ 0 → run (storedP base l r) x .number ≡ 0 → ⊥
-unfolding storedP run
+unfolding storedP
 stored-unserved base l (range set offset n) x e h = let z = data-unserved base l set offset n x e in omega arith
-stored-unserved base l (byte set a d) x e h = go (eqb (physical l a .number) 0) refl h
-  where
-    go : (b : Bool) → eqb (physical l a .number) 0 ≡ b → run (pick b (dataP base (l .served) (l .setWords) set (physical l a .value) 1) (done (noBytes (physical l a .number)))) x .number ≡ 0 → ⊥
-    go true i j = let z = data-unserved base l set (physical l a .value) 1 x e in omega arith
-    go false i j = let z : eqb (physical l a .number) 0 ≡ true = eq-eqb _ 0 j in clash (cc)
+stored-unserved base l (byte set a d) x e h = byte-unserved base l set (physical l a) x e h
+stored-unserved base l (own set address levels) x e h = byte-unserved base l set (ownPhysical l set address levels) x e h
 
 pub read-unserved : (base : ℕ) (l : Lent) (count : ℕ) (r : RomRead) (x : List ℕ) → l .served ≡ 0 → run (readP base l count r) x .number ≡ 0 → ⊥
 unfolding readP

@@ -8,8 +8,8 @@ use Rattle.types.specs.declared.SdrrCsSet.{SdrrCsSet}
 use Rattle.board.specs.declared.BoardPins.{BoardPins}
 use Rattle.mangle.specs.Mangle.{mangleCore}
 use Rattle.governing.specs.declared.GoverningSet.{GoverningSet}
-use Rattle.governing.specs.Governing.{governingSet0}
-use Rattle.info.specs.Lent.{unmangled, mangledBy, mangleAddress}
+use Rattle.governing.specs.Governing.{governingSet0, governingOwn}
+use Rattle.info.specs.Lent.{unmangled, mangledBy, mangleAddress, mangleOwn}
 
 module _ (g : GoverningSet) (pins : BoardPins) (address : ℕ) (levels : SdrrCsSet) where
   pub not-governed : (g .number ≡ 0 → ⊥) → mangledBy g pins address levels ≡ unmangled (g .number)
@@ -25,3 +25,8 @@ pub in-two : (pins : BoardPins) (served : ℕ) (sets roms : List ℕ) (address :
     → mangleAddress pins served sets roms address levels ≡ mangledBy (governingSet0 (pins .number) served sets roms) pins address levels
 unfolding mangleAddress
 in-two pins served sets roms address levels = refl
+
+pub own-in-two : (pins : BoardPins) (served : ℕ) (sets roms : List ℕ) (set address : ℕ) (levels : SdrrCsSet)
+    → mangleOwn pins served sets roms set address levels ≡ mangledBy (governingOwn (pins .number) served sets roms set) pins address levels
+unfolding mangleOwn
+own-in-two pins served sets roms set address levels = refl

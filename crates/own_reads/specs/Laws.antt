@@ -1,0 +1,5 @@
+pub mod Steps
+pub mod Range
+pub mod Numbers
+pub mod Set0
+pub mod Looks

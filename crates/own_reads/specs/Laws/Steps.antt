@@ -1,0 +1,94 @@
+-- The read by the set's own ROMs, outcome by outcome: what the proofs of the code cite.
+-- Assumes nothing.
+use Prim.Native.Nat.{ℕ}
+use native.Mathlib.Omega.{arith}
+use mathlib.Core.Path.{_≡_, refl, sym, ap, _∙_}
+use mathlib.Core.Bool.{true, false}
+use mathlib.Core.List.{List}
+use lib.Dec.{eqb}
+use borrow.Author.Tests.{eqb-true, eqb-false, ne-eqb}
+use Rattle.base.specs.Laws.{cases}
+use Rattle.base.specs.Choice.{pick}
+use Rattle.types.specs.declared.SdrrCsSet.{SdrrCsSet}
+use Rattle.window.specs.Window.{baseAfter, beyondWindow}
+use Rattle.prog.specs.Prog.{mapP, run}
+use Rattle.prog.specs.Laws.Run.{run-done, run-map}
+use Rattle.mangle.specs.declared.Mangled.{Mangled}
+use Rattle.info.specs.declared.SdrrAddress.{SdrrAddress}
+use Rattle.info.specs.Lent.{Lent}
+use Rattle.info.specs.Reads.{noBytes, byte, own, physical, ownPhysical, byteP, storedP, finished, readP, Reply, readReply, romRead}
+use Rattle.info.specs.Laws.Calls.{refusedReply, read-beyond}
+use Rattle.byte_reads.specs.declared.ByteRead.{ByteRead}
+use Rattle.byte_reads.specs.Calls.{byteOf}
+use Rattle.byte_reads.specs.Code.{noByte, byteAt, shownFrom}
+use Rattle.byte_reads.specs.Laws.Steps.{stored-unmangled, byte-raw, byte-demangled, shown-refused}
+
+module _ (flashBase cs0Base : ℕ) (l : Lent) (count : ℕ) (x : List ℕ) (set : ℕ) where
+  -- the demangled byte at an address that mangling has led to, whatever governed it
+  through : SdrrCsSet → ℕ → Mangled → Reply
+  through levels address m =
+      pick (beyondWindow flashBase cs0Base x) (refusedReply 1 count)
+      (readReply count (own set address levels) (run (mapP (finished l count (own set address levels)) (byteP (baseAfter flashBase cs0Base (l .line)) l set m)) x))
+
+  through-refused : (levels : SdrrCsSet) (address : ℕ) (m : Mangled) → beyondWindow flashBase cs0Base x ≡ false → (m .number ≡ 0 → ⊥)
+      → through levels address m ≡ refusedReply (m .number) count
+  unfolding through finished
+  through-refused levels address m inside h =
+      let base = baseAfter flashBase cs0Base (l .line) in
+      let r = own set address levels in
+      let e = ne-eqb (m .number) 0 h in
+      rw inside (ap (readReply count r) (run-map x (finished l count r) (byteP base l set m)) ∙ rw (e, run-done x (noBytes (m .number))) (simp e))
+
+  module _ (address : ℕ) (levels : SdrrCsSet) where
+    own-through : romRead flashBase cs0Base l count (own set address levels) x ≡ through levels address (ownPhysical l set address levels)
+    unfolding through romRead readP storedP
+    own-through = refl
+
+    byte-through : (a : SdrrAddress) → romRead flashBase cs0Base l count (byte set a true) x ≡ through levels address (physical l a)
+    unfolding through romRead readP storedP finished
+    byte-through a = refl
+
+    -- the old read, where its mangling is refused
+    pub byte-unmangled : (a : SdrrAddress) → beyondWindow flashBase cs0Base x ≡ false → (physical l a .number ≡ 0 → ⊥)
+        → romRead flashBase cs0Base l count (byte set a true) x ≡ refusedReply (physical l a .number) count
+    byte-unmangled a inside h = byte-through a ∙ through-refused levels address (physical l a) inside h
+
+    -- where both manglings lead alike, both reads reply alike
+    pub own-as-byte : (a : SdrrAddress) → ownPhysical l set address levels ≡ physical l a
+        → romRead flashBase cs0Base l count (own set address levels) x ≡ romRead flashBase cs0Base l count (byte set a true) x
+    own-as-byte a e = own-through ∙ ap (through levels address) e ∙ sym (byte-through a)
+
+    module _ (m : Mangled) (mangled : m ≡ ownPhysical l set address levels) where
+      -- an accepted mangling leads to an offset: the reply is that of the demangled read there
+      pub own-at-offset : m .number ≡ 0
+          → romRead flashBase cs0Base l count (own set address levels) x ≡ romRead flashBase cs0Base l count (byte set (SdrrAddress.Raw (m .value)) true) x
+      own-at-offset e =
+          own-as-byte (SdrrAddress.Raw (m .value)) (sym mangled ∙ ap (λ (n : ℕ). record { number = n; value = m .value }) e)
+
+      -- a refused one is the reply
+      pub own-unmangled : beyondWindow flashBase cs0Base x ≡ false → (m .number ≡ 0 → ⊥)
+          → romRead flashBase cs0Base l count (own set address levels) x ≡ refusedReply (m .number) count
+      own-unmangled inside h = own-through ∙ ap (through levels address) (sym mangled) ∙ through-refused levels address m inside h
+
+      -- as the code has it: by the address as it has mangled it, the byte that stands there, and that demangled
+      module _ (raw : ByteRead) (stored : raw ≡ byteAt flashBase cs0Base (l .line) (l .served) (l .setWords) set m count x)
+          (r : ByteRead) (shown : r ≡ shownFrom (l .pins .number) (l .pins .«data») raw count) where
+        kept : (n : ℕ) → raw ≡ noByte n count → (n ≡ 0 → ⊥) → r ≡ noByte n count
+        kept n e h =
+            shown ∙ shown-refused (l .pins .number) (l .pins .«data») raw count (λ (z : raw .number ≡ 0). h (ap (λ (b : ByteRead). b .number) (sym e) ∙ z)) ∙ e
+
+        refused-alike : (m .number ≡ 0 → ⊥) → r ≡ byteOf (romRead flashBase cs0Base l count (own set address levels) x)
+        unfolding byteAt
+        refused-alike h =
+            cases (beyondWindow flashBase cs0Base x)
+            (λ i. kept 1 (stored ∙ rw i) (λ (z : _≡_ {A = ℕ} 1 0). omega arith) ∙ sym (ap byteOf (read-beyond flashBase cs0Base l count x (own set address levels) i)))
+            (λ i. kept (m .number) (stored ∙ rw i (stored-unmangled x _ _ m count h)) h ∙ sym (ap byteOf (own-unmangled i h)))
+
+        accepted-alike : m .number ≡ 0 → r ≡ byteOf (romRead flashBase cs0Base l count (own set address levels) x)
+        accepted-alike e =
+            let a = SdrrAddress.Raw (m .value) in
+            let first = byte-raw flashBase cs0Base l count x set a m (ap (λ (n : ℕ). record { number = n; value = m .value }) e) raw stored in
+            byte-demangled flashBase cs0Base l count x set a raw first r shown ∙ sym (ap byteOf (own-at-offset e))
+
+        pub byte-own : r ≡ byteOf (romRead flashBase cs0Base l count (own set address levels) x)
+        byte-own = cases (eqb (m .number) 0) (λ h. accepted-alike (eqb-true (m .number) 0 h)) (λ h. refused-alike (eqb-false (m .number) 0 h))

@@ -2,7 +2,7 @@
 -- Assumes nothing.
 use Prim.Native.Nat.{ℕ}
 use mathlib.Core.Path.{_≡_, refl, sym, ap, ap₂, _∙_}
-use mathlib.Core.Bool.{Bool, true, false}
+use mathlib.Core.Bool.{true, false}
 use mathlib.Core.List.{List, []}
 use borrow.Author.Tests.{eq-eqb, ne-eqb}
 use Rattle.types.specs.declared.McuLine.{McuLine}
@@ -20,7 +20,6 @@ use Rattle.byte_reads.specs.Laws.Steps.{byte-raw, byte-demangled}
 use Rattle.c_report.specs.declared.OneromReport.{OneromReport}
 use Rattle.c_handed.specs.Handed.{lineIn, pinsIn, boardIn}
 use Rattle.c_board.specs.Board.{levelsFrom, addressFrom}
-use Rattle.c_board.specs.Value.{valueAfter}
 use Rattle.c_reads.specs.Reads.{dataCall, byteCall}
 
 module _ (f c : ℕ) (report : OneromReport) (sets : List ℕ) (set offset count : ℕ) (x lent : List ℕ) (n : ℕ) where
@@ -65,14 +64,3 @@ module _ (f c : ℕ) (report : OneromReport) (sets roms : List ℕ) (set logical
       → shown ≡ byteCall true f c report sets roms set logical address levels count x
   unfolding byteCall boardIn pinsIn
   shown-read shown e = byte-demangled f c (lentBy (boardIn f c report) sets roms) count x set (addressFrom logical address levels) raw raw-read shown e
-
-module _ (demangled : Bool) (f c : ℕ) (report : OneromReport) (sets roms : List ℕ) (set logical address : ℕ) (levels : List ℕ) (count : ℕ) (x : List ℕ) where
-  pub byte-given : (r : ByteRead) → r ≡ byteCall demangled f c report sets roms set logical address levels count x
-      → (number left value before : ℕ) → number ≡ r .number → left ≡ r .count → value ≡ valueAfter (r .number) (r .byte) before
-      → (number ≡ byteCall demangled f c report sets roms set logical address levels count x .number)
-      × ((left ≡ byteCall demangled f c report sets roms set logical address levels count x .count)
-      × (value ≡ valueAfter number (byteCall demangled f c report sets roms set logical address levels count x .byte) before))
-  byte-given r same number left value before n l v = (
-    n ∙ ap (λ (t : ByteRead). t .number) same,
-    (l ∙ ap (λ (t : ByteRead). t .count) same, v ∙ ap₂ (λ (m b : ℕ). valueAfter m b before) (sym n) (ap (λ (t : ByteRead). t .byte) same)),
-  )

@@ -1,5 +1,4 @@
 // ROM data and the byte reads as C and Rust call them: by a report handed back.
-use byte_reads::ByteRead;
 use c_report::OneromReport;
 use mangle::Mangled;
 ghost use mathlib.Core.Path.{_≡_};
@@ -29,20 +28,6 @@ pub fn data_call(
     let stored = data_reads::read_rom_set_data(image, board, set_rows, set, offset, buffer, before);
     *count = stored.count;
     stored.number as u32
-}
-
-// What a byte read leaves in the lent words: the count always, the byte where it is accepted.
-fn give(read: ByteRead, count: &mut u32, value: &mut u8) -> u32
-    ensures reply { λ r. ⌜ r ≡ read .number ⌝ }
-    ensures count { λ _. ⌜ now (count .exit) ≡ read .count ⌝ }
-    ensures value { λ _. ⌜ now (value .exit) ≡ valueAfter (read .number) (read .byte) (now (value .entry)) ⌝ }
-{
-    *count = read.count;
-    if read.number != 0 {
-        return read.number as u32;
-    }
-    *value = read.byte;
-    0
 }
 
 // A raw offset, which no pin has a part in.
@@ -99,7 +84,7 @@ pub fn raw_byte_call(
         m,
         before,
     );
-    give(raw, count, value)
+    c_byte::give(raw, count, value)
 }
 
 pub fn demangled_byte_call(
@@ -146,5 +131,5 @@ pub fn demangled_byte_call(
     );
     let data = held.data;
     let shown = byte_reads::shown_byte(held.number, data, raw, before);
-    give(shown, count, value)
+    c_byte::give(shown, count, value)
 }

@@ -8,6 +8,7 @@ ghost use Rattle.same_set.specs.Same.{sameSet};
 ghost use Rattle.info.specs.Reads.{bufferLeft};
 ghost use Rattle.c_board.specs.Value.{valueAfter};
 ghost use Rattle.c_reads.specs.Reads.{dataCall, byteCall};
+ghost use Rattle.c_own.specs.Own.{ownCall};
 
 #[no_mangle]
 pub extern "C" fn onerom_get_rom_set_size(
@@ -129,6 +130,39 @@ pub extern "C" fn onerom_read_rom_byte_demangled(
         rom_rows,
         set,
         logical,
+        address,
+        levels,
+        count,
+        value,
+    )
+}
+
+#[no_mangle]
+pub extern "C" fn onerom_read_rom_byte_own(
+    image: &[u8],
+    flash_base: u32,
+    cs0_base: u32,
+    report: OneromReport,
+    set_rows: &[u32],
+    rom_rows: &[u32],
+    set: u32,
+    address: u32,
+    levels: &[u8; 5],
+    count: &mut u32,
+    value: &mut u8,
+) -> u32
+    ensures reply { λ r. ⌜ r ≡ ownCall «flash_base» «cs0_base» report (now («set_rows» .entry)) (now («rom_rows» .entry)) set address (now (levels .entry)) (now (count .entry)) (now (image .entry)) .number ⌝ }
+    ensures count { λ r. ⌜ now (count .exit) ≡ ownCall «flash_base» «cs0_base» report (now («set_rows» .entry)) (now («rom_rows» .entry)) set address (now (levels .entry)) (now (count .entry)) (now (image .entry)) .count ⌝ }
+    ensures value { λ r. ⌜ now (value .exit) ≡ valueAfter r (ownCall «flash_base» «cs0_base» report (now («set_rows» .entry)) (now («rom_rows» .entry)) set address (now (levels .entry)) (now (count .entry)) (now (image .entry)) .byte) (now (value .entry)) ⌝ }
+{
+    c_own::own_byte_call(
+        image,
+        flash_base,
+        cs0_base,
+        report,
+        set_rows,
+        rom_rows,
+        set,
         address,
         levels,
         count,

@@ -1,7 +1,7 @@
 -- Demand 3 for the calls that C and Rust make, in one place, and of demand 1 what a refused read leaves. (Of the opening: fw_parser/Laws/Promises.)
 -- `onerom_open` ensures: its reply is `openingOut (openCall …)`, the rows afterwards are `setRowsLeft (openCall …)` and `romRowsLeft (openCall …)`.
--- `onerom_read_rom_set_data` ensures number, count and buffer of `dataCall …`; the byte reads those of `byteCall …`. Both are `romRead` with
--- what the handed-back report says (`boardIn`). The image and rows of a read are lent for reading only.
+-- `onerom_read_rom_set_data` ensures number, count and buffer of `dataCall …`; the byte reads those of `byteCall …`, the one by the set's own ROMs
+-- those of `ownCall …`. All are `romRead` with what the handed-back report says (`boardIn`). The image and rows of a read are lent for reading only.
 -- `openCall` is `opening`, of which `demand3` speaks, and the reads are the `romRead` of which it speaks.
 -- Assumes nothing.
 use Prim.Native.Nat.{ℕ}
@@ -16,7 +16,7 @@ use Rattle.board.specs.declared.BoardPins.{BoardPins}
 use Rattle.board.specs.Board.{boardPins}
 use Rattle.info.specs.declared.SdrrAddress.{SdrrAddress}
 use Rattle.info.specs.Lent.{Lent, lentBy}
-use Rattle.info.specs.Reads.{RomRead, range, byte, shownByte, storedP, finished, readP, Reply, romRead, bufferLeft}
+use Rattle.info.specs.Reads.{RomRead, range, byte, own, shownByte, storedP, finished, readP, Reply, romRead, bufferLeft}
 use Rattle.byte_reads.specs.declared.ByteRead.{ByteRead}
 use Rattle.byte_reads.specs.Calls.{byteOf}
 use Rattle.info.specs.Laws.History.{refused-changes-nothing}
@@ -28,7 +28,7 @@ use Rattle.fw_parser.specs.Reply.{openingReply}
 use Rattle.cut_short.specs.ReadAfter.{readAfter}
 use Rattle.cut_short.specs.Demand3.{Opens, Demand3}
 use Rattle.cut_short.specs.Laws.Proof.{demand3, refused-refuses}
-use Rattle.c_board.specs.Board.{addressFrom}
+use Rattle.c_board.specs.Board.{levelsFrom, addressFrom}
 use Rattle.c_board.specs.Value.{valueAfter}
 use Rattle.c_report.specs.declared.OneromReport.{OneromReport}
 use Rattle.c_report.specs.Report.{reportOut}
@@ -36,6 +36,7 @@ use Rattle.c_handed.specs.Handed.{boardIn}
 use Rattle.c_handed.specs.Laws.{handed-back}
 use Rattle.c_open.specs.Opening.{openCall, openingOut}
 use Rattle.c_reads.specs.Reads.{dataCall, byteCall}
+use Rattle.c_own.specs.Own.{ownCall}
 
 -- ---- the reads as they are called: each is a `romRead` by the report and rows as lent
 
@@ -51,6 +52,16 @@ pub byte-is-read : (demangled : Bool) (f c : ℕ) (report : OneromReport) (sets 
 unfolding byteCall
 byte-is-read demangled f c report sets roms set logical address levels count x = refl
 
+-- the byte of any read by a report handed back
+abbrev oneByte : (f c : ℕ) → OneromReport → (sets roms : List ℕ) → (count : ℕ) → RomRead → List ℕ → ByteRead
+oneByte f c report sets roms count r x = byteOf (romRead f c (lentBy (boardIn f c report) sets roms) count r x)
+
+pub own-is-read : (f c : ℕ) (report : OneromReport) (sets roms : List ℕ) (set address : ℕ) (levels : List ℕ) (count : ℕ) (x : List ℕ)
+    → ownCall f c report sets roms set address levels count x
+    ≡ byteOf (romRead f c (lentBy (boardIn f c report) sets roms) count (own set address (levelsFrom levels)) x)
+unfolding ownCall
+own-is-read f c report sets roms set address levels count x = refl
+
 -- a refused read of ROM data leaves the count and every byte of the lent buffer
 pub refused-data : (f c : ℕ) (report : OneromReport) (sets : List ℕ) (set offset n count : ℕ) (x buffer : List ℕ) → (dataCall f c report sets set offset n count x .number ≡ 0 → ⊥)
     → (dataCall f c report sets set offset n count x .count ≡ count) × (bufferLeft (dataCall f c report sets set offset n count x) buffer ≡ buffer)
@@ -60,15 +71,28 @@ refused-data f c report sets set offset n count x buffer h =
     (kept .count-kept, kept .buffer-kept)
 
 -- a refused byte read leaves the count, and the lent byte
+refused-one : (f c : ℕ) (report : OneromReport) (sets roms : List ℕ) (count : ℕ) (r : RomRead) (x : List ℕ) (before : ℕ) → (oneByte f c report sets roms count r x .number ≡ 0 → ⊥)
+    → (oneByte f c report sets roms count r x .count ≡ count)
+    × (valueAfter (oneByte f c report sets roms count r x .number) (oneByte f c report sets roms count r x .byte) before ≡ before)
+refused-one f c report sets roms count r x before h =
+    let l = lentBy (boardIn f c report) sets roms in
+    (refused-changes-nothing f c l x count [] r h .count-kept, rw (ne-eqb (romRead f c l count r x .number) 0 h))
+
 pub refused-byte : (demangled : Bool) (f c : ℕ) (report : OneromReport) (sets roms : List ℕ) (set logical address : ℕ) (levels : List ℕ) (count : ℕ) (x : List ℕ) (before : ℕ)
     → (byteCall demangled f c report sets roms set logical address levels count x .number ≡ 0 → ⊥)
     → (byteCall demangled f c report sets roms set logical address levels count x .count ≡ count)
     × (valueAfter (byteCall demangled f c report sets roms set logical address levels count x .number) (byteCall demangled f c report sets roms set logical address levels count x .byte) before ≡ before)
 unfolding byteCall
 refused-byte demangled f c report sets roms set logical address levels count x before h =
-    let r = byte set (addressFrom logical address levels) demangled in
-    let l = lentBy (boardIn f c report) sets roms in
-    (refused-changes-nothing f c l x count [] r h .count-kept, rw (ne-eqb (romRead f c l count r x .number) 0 h))
+    refused-one f c report sets roms count (byte set (addressFrom logical address levels) demangled) x before h
+
+pub refused-own : (f c : ℕ) (report : OneromReport) (sets roms : List ℕ) (set address : ℕ) (levels : List ℕ) (count : ℕ) (x : List ℕ) (before : ℕ)
+    → (ownCall f c report sets roms set address levels count x .number ≡ 0 → ⊥)
+    → (ownCall f c report sets roms set address levels count x .count ≡ count)
+    × (valueAfter (ownCall f c report sets roms set address levels count x .number) (ownCall f c report sets roms set address levels count x .byte) before ≡ before)
+unfolding ownCall
+refused-own f c report sets roms set address levels count x before h =
+    refused-one f c report sets roms count (own set address (levelsFrom levels)) x before h
 
 -- ---- a report handed back unaltered: the reads are those of the opening's report
 
@@ -84,6 +108,7 @@ same-reads base m n p served sets roms count (byte set (SdrrAddress.Raw offset) 
 same-reads base m n p served sets roms count (byte set (SdrrAddress.Raw offset) true) = refl
 same-reads base m n p served sets roms count (byte set (SdrrAddress.Logical address levels) false) = refl
 same-reads base m n p served sets roms count (byte set (SdrrAddress.Logical address levels) true) = refl
+same-reads base m n p served sets roms count (own set address levels) = refl
 
 read-by : (f c : ℕ) (m n : McuLine) (p : BoardPins) (served : ℕ) (sets roms : List ℕ) (count : ℕ) (r : RomRead) (x : List ℕ) → baseAfter f c m ≡ baseAfter f c n
     → romRead f c (lent m p served sets roms) count r x ≡ romRead f c (lent n p served sets roms) count r x
@@ -113,30 +138,40 @@ module _ (f c : ℕ) (sets roms : List ℕ) where
   byteAfter demangled p set logical address levels count x =
       byteCall demangled f c (openingOut p .report) (setRowsLeft p sets) (romRowsLeft p roms) set logical address levels count x
 
-  -- both are the reads of which demand 3 speaks
+  abbrev pub ownAfter : Opened → (set address : ℕ) → (levels : List ℕ) → (count : ℕ) → List ℕ → ByteRead
+  ownAfter p set address levels count x = ownCall f c (openingOut p .report) (setRowsLeft p sets) (romRowsLeft p roms) set address levels count x
+
+  -- they are the reads of which demand 3 speaks
   data-after : (o : ℕ) (p : Opened) (set offset n count : ℕ) (x : List ℕ)
       → dataAfter p set offset n count x ≡ readAfter (settings o) sets roms p count (range set offset n) x
   data-after o p set offset n count x =
       data-is-read f c (openingOut p .report) (setRowsLeft p sets) (romRowsLeft p roms) set offset n count x
       ∙ handed-read (settings o) f c (openingReply p .info) (setRowsLeft p sets) (romRowsLeft p roms) count (range set offset n) x
 
-  byte-after : (o : ℕ) (demangled : Bool) (p : Opened) (set logical address : ℕ) (levels : List ℕ) (count : ℕ) (x : List ℕ)
-      → byteAfter demangled p set logical address levels count x
-      ≡ byteOf (readAfter (settings o) sets roms p count (byte set (addressFrom logical address levels) demangled) x)
-  byte-after o demangled p set logical address levels count x =
-      byte-is-read demangled f c (openingOut p .report) (setRowsLeft p sets) (romRowsLeft p roms) set logical address levels count x
-      ∙ ap byteOf (handed-read (settings o) f c (openingReply p .info) (setRowsLeft p sets) (romRowsLeft p roms) count (byte set (addressFrom logical address levels) demangled) x)
+  abbrev oneAfter : Opened → (count : ℕ) → RomRead → List ℕ → ByteRead
+  oneAfter p count r x = oneByte f c (openingOut p .report) (setRowsLeft p sets) (romRowsLeft p roms) count r x
+
+  one-after : (o : ℕ) (p : Opened) (count : ℕ) (r : RomRead) (x : List ℕ) → oneAfter p count r x ≡ byteOf (readAfter (settings o) sets roms p count r x)
+  one-after o p count r x = ap byteOf (handed-read (settings o) f c (openingReply p .info) (setRowsLeft p sets) (romRowsLeft p roms) count r x)
 
   -- what a refused opening handed back serves no read
   pub refused-serves-no-data : (n set offset m count : ℕ) (x : List ℕ) → dataAfter (refused n) set offset m count x .number ≡ 0 → ⊥
   refused-serves-no-data n set offset m count x h =
       refused-refuses (settings 0) sets roms n count (range set offset m) x (ap (λ (t : Reply). t .number) (sym (data-after 0 (refused n) set offset m count x)) ∙ h)
 
+  refused-serves-none : (n count : ℕ) (r : RomRead) (x : List ℕ) → oneAfter (refused n) count r x .number ≡ 0 → ⊥
+  refused-serves-none n count r x h =
+      refused-refuses (settings 0) sets roms n count r x (ap (λ (t : ByteRead). t .number) (sym (one-after 0 (refused n) count r x)) ∙ h)
+
   pub refused-serves-no-byte : (demangled : Bool) (n set logical address : ℕ) (levels : List ℕ) (count : ℕ) (x : List ℕ)
       → byteAfter demangled (refused n) set logical address levels count x .number ≡ 0 → ⊥
+  unfolding byteCall
   refused-serves-no-byte demangled n set logical address levels count x h =
-      refused-refuses (settings 0) sets roms n count (byte set (addressFrom logical address levels) demangled) x
-      (ap (λ (t : ByteRead). t .number) (sym (byte-after 0 demangled (refused n) set logical address levels count x)) ∙ h)
+      refused-serves-none n count (byte set (addressFrom logical address levels) demangled) x h
+
+  pub refused-serves-no-own : (n set address : ℕ) (levels : List ℕ) (count : ℕ) (x : List ℕ) → ownAfter (refused n) set address levels count x .number ≡ 0 → ⊥
+  unfolding ownCall
+  refused-serves-no-own n set address levels count x h = refused-serves-none n count (own set address (levelsFrom levels)) x h
 
   module _ (o : ℕ) (x : List ℕ) (opens : Opens (openCall f c o sets roms x)) (k : ℕ) where
     abbrev cut : Opened
@@ -157,9 +192,17 @@ module _ (f c : ℕ) (sets roms : List ℕ) where
         data-after o whole set offset n count x
         ∙ cut-short .reads-kept count (range set offset n) (ap (λ (t : Reply). t .number) (sym e) ∙ h) ∙ sym e
 
+    one-kept : (count : ℕ) (r : RomRead) → oneAfter cut count r (take k x) .number ≡ 0 → oneAfter whole count r x ≡ oneAfter cut count r (take k x)
+    one-kept count r h =
+        let e = one-after o cut count r (take k x) in
+        one-after o whole count r x ∙ ap byteOf (cut-short .reads-kept count r (ap (λ (t : ByteRead). t .number) (sym e) ∙ h)) ∙ sym e
+
     pub byte-kept : (demangled : Bool) (set logical address : ℕ) (levels : List ℕ) (count : ℕ) → byteAfter demangled cut set logical address levels count (take k x) .number ≡ 0
         → byteAfter demangled whole set logical address levels count x ≡ byteAfter demangled cut set logical address levels count (take k x)
-    byte-kept demangled set logical address levels count h =
-        let e = byte-after o demangled cut set logical address levels count (take k x) in
-        byte-after o demangled whole set logical address levels count x
-        ∙ ap byteOf (cut-short .reads-kept count (byte set (addressFrom logical address levels) demangled) (ap (λ (t : ByteRead). t .number) (sym e) ∙ h)) ∙ sym e
+    unfolding byteCall
+    byte-kept demangled set logical address levels count h = one-kept count (byte set (addressFrom logical address levels) demangled) h
+
+    pub own-kept : (set address : ℕ) (levels : List ℕ) (count : ℕ) → ownAfter cut set address levels count (take k x) .number ≡ 0
+        → ownAfter whole set address levels count x ≡ ownAfter cut set address levels count (take k x)
+    unfolding ownCall
+    own-kept set address levels count h = one-kept count (own set address (levelsFrom levels)) h

@@ -2,8 +2,8 @@ use native.Mathlib.Omega.{arith}
 use mathlib.Core.Path.{_≡_, refl, sym}
 use borrow.Author.Needs.{needs}
 use borrow.Author.Tests.{eq-eqb, ne-eqb}
-use Rattle.c_reads.proofs.give.Statement.{statement}
-use Rattle.c_reads.proofs.give.Tie as tie
+use Rattle.c_byte.proofs.give.Statement.{statement}
+use Rattle.c_byte.proofs.give.Tie as tie
 
 returns : tie.Need-returns
 returns c = (refl, (refl, rw (ne-eqb _ 0 (c .before .if1 .taken)) refl))

@@ -15,7 +15,7 @@ A call is 16 bytes: kind, levels (five digits to base 3, CS1 the lowest), u16 le
 lent-vectors.xz are answers of another reader of document 01, the boards of oracle-sample.txt the Rust's; where one differs from opening.py, this
 script stops.
 """
-import struct
+import re, struct
 
 import cases, files, given, opening, oracle
 from opening import KINDS, NONE
@@ -32,23 +32,24 @@ def sum_of(numbers):
     return s
 
 
+def plain(data):
+    """Bytes as they are, at most 128 behind their number less one."""
+    return b"".join(bytes([len(data[i : i + 128]) - 1]) + data[i : i + 128] for i in range(0, len(data), 128))
+
+
+# runs of these lengths, and of 3 to 121
+LONG = [128 << i for i in range(9)]
+RUN = re.compile(rb"(.)(?:%b|\1{2,120})" % b"|".join(rb"\1{%d}" % (n - 1) for n in reversed(LONG)), re.S)
+
+
 def packed(data):
-    """Runs of at least three equal bytes as 125 and their number, and the byte; other bytes, at most 128, behind their number less one."""
-    out, plain, i = bytearray(), bytearray(), 0
-    while i < len(data):
-        n = 1
-        while n < 130 and i + n < len(data) and data[i + n] == data[i]:
-            n += 1
-        if n < 3:
-            plain.append(data[i])
-            n = 1
-        if n >= 3 or len(plain) == 128 or i + n == len(data):
-            out += bytes([len(plain) - 1]) + plain if plain else b""
-            plain = bytearray()
-        if n >= 3:
-            out += bytes([125 + n, data[i]])
-        i += n
-    return bytes(out)
+    """Equal bytes, three at least, as 125 and their number, or 247 and the index of their number in LONG, and the byte; other bytes plain."""
+    out, at = bytearray(), 0
+    for run in RUN.finditer(data):
+        n = run.end() - run.start()
+        out += plain(data[at : run.start()]) + bytes([247 + LONG.index(n) if n in LONG else 125 + n]) + run[1]
+        at = run.end()
+    return bytes(out) + plain(data[at:])
 
 
 def report_line(o):
@@ -116,7 +117,7 @@ class Out:
 
     def record(self, *parts):
         data = b"".join(parts)
-        assert len(data) <= 65536
+        assert len(data) <= 69632, len(data)
         data = packed(data)
         self.given.append(struct.pack("<I", len(data)) + data)
         self.records += 1

@@ -1,4 +1,5 @@
-// A record as the input packs it. A byte below 128: so many bytes and one more follow as they are; any other byte c: the next one, c - 125 times.
+// A record as the input packs it. A byte below 128: so many bytes and one more follow as they are; any other byte c: the next one, c - 125 times,
+// or from 247 on 128 times, 256 times and so on.
 use super::record;
 ghost use Prim.Native.Nat.{_<_};
 
@@ -21,16 +22,34 @@ fn width(c: u8) -> usize
     2
 }
 
-// How many bytes the step gives that starts with c.
-fn count(c: u8) -> u8 {
-    if c < 128 {
-        return c + 1;
+// How long a run is from 247 on.
+fn long_run(c: u8) -> u16 {
+    match c {
+        247 => 128,
+        248 => 256,
+        249 => 512,
+        250 => 1024,
+        251 => 2048,
+        252 => 4096,
+        253 => 8192,
+        254 => 16384,
+        _ => 32768,
     }
-    c - 125
+}
+
+// How many bytes the step gives that starts with c.
+fn count(c: u8) -> u16 {
+    if c < 128 {
+        return c as u16 + 1;
+    }
+    if c < 247 {
+        return c as u16 - 125;
+    }
+    long_run(c)
 }
 
 // The byte i of a step.
-fn byte(packed: &[u8], c: u8, i: u8) -> u8 {
+fn byte(packed: &[u8], c: u8, i: u16) -> u8 {
     if c < 128 {
         return le::u8_at(packed, i as usize + 1);
     }

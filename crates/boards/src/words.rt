@@ -5,10 +5,10 @@ ghost use lib.ListN.{length};
 ghost use Rattle.rows.specs.LentRows.{romWidth};
 
 // Each contract gives the length alone, so that no caller's proof computes the list.
-pub(crate) fn input_space() -> [u8; 65536]
-    ensures { λ r. ⌜ 65536 ≡ length r ⌝ }
+pub(crate) fn input_space() -> [u8; 69632]
+    ensures { λ r. ⌜ 69632 ≡ length r ⌝ }
 {
-    [0; 65536]
+    [0; 69632]
 }
 
 // Rows of 255 sets, and a tail.

@@ -1,5 +1,5 @@
-"""The answers of another reader of document 01, in tests/data/boards-vectors.xz and lent-vectors.xz: a line of JSON, then the images.
-Where the model beside this file answers otherwise, an assertion stops the script."""
+"""The answers of another reader of documents 01 and 02: tests/data/boards-vectors.xz and lent-vectors.xz, a line of JSON, then the images; and
+own-vectors.xz on the read of wish 1, a line of JSON. Where the model beside this file answers otherwise, an assertion stops the script."""
 import json, lzma, os
 
 import opening
@@ -78,3 +78,44 @@ def lent():
         image, (flash, cs0, _) = images[v["at"] : v["at"] + v["length"]], v["settings"]
         given = Lent(flash, cs0, v["line"], pins_words(v["pins"]), v["served"], v["set_rows"], v["rom_rows"])
         yield image, given, compare_calls(v["calls"], given, image)
+
+
+# ---- the read of wish 1, each with the old read's reply beside it
+
+
+def image_of(v):
+    """Of an image are kept the bytes that an answer rests on, as offset and bytes; the others are 0, so that a read of a wrong place shows."""
+    image = bytearray(v["length"])
+    for at, text in v["bytes"]:
+        image[at : at + len(text) // 2] = bytes.fromhex(text)
+    return bytes(image)
+
+
+def both_reads(calls):
+    """Calls as set, address, levels, count, the new reply and the old one, each as two calls of compare_calls."""
+    for i, address, levels, count, reply, old in calls:
+        yield "own", i, address, levels, 1, count, reply
+        yield "logical", i, address, levels, 1, count, old
+
+
+def own_boards():
+    """image, settings, set words, ROM words, the calls, the cuts; the reads of a cut are compared with what that cut answered"""
+    for v in unpacked("own-vectors.xz")[0]["opened"]:
+        image, lengths = image_of(v), (v["set_words"], v["rom_words"])
+        lent = opening.lent_of(opening.opening(image, v["settings"], *lengths), v["settings"], *lengths)
+        first = [("own", i, address, levels, 1, 0, reply) for i, address, levels, reply in v["first"]]
+        calls = compare_calls([*both_reads(v["calls"]), *first], lent, image)
+        for take, number, replies in v["cuts"]:
+            cut = opening.opening(image[:take], v["settings"], *lengths)
+            assert cut.number == number and len(replies) == (0 if number else len(first)), (v["settings"], take)
+            compare_calls([c[:6] + (reply,) for c, reply in zip(first, replies)], opening.lent_of(cut, v["settings"], *lengths), image[:take])
+        yield image, v["settings"], *lengths, calls, [take for take, _, _ in v["cuts"]]
+
+
+def own_lent():
+    """image, what is lent, the calls; the pins are as lent beside a refused pins item too"""
+    for v in unpacked("own-vectors.xz")[0]["lent"]:
+        number, rom_pins, *pins = v["pins"]
+        words = [number, 0, 0, 0, 0, 0, rom_pins] + pins[:27] + [0] * 3 + pins[27:] + [0] * 37
+        image, given = image_of(v), Lent(*v["settings"], v["line"], words, v["served"], v["set_rows"], v["rom_rows"])
+        yield image, given, compare_calls(both_reads(v["calls"]), given, image)

@@ -1,4 +1,5 @@
-"""Document 01, "ROM sets and ROM infos", "Report", "ROM data", "Lent rows" and "Same set", read a second time, in Python."""
+"""Document 01, "ROM sets and ROM infos", "Report", "ROM data", "Lent rows" and "Same set", and the read of document 02's wish 1, read a second
+time, in Python."""
 import mangle, records
 from records import NONE, u32
 
@@ -177,22 +178,43 @@ class Lent:
         kinds = [self.roms[7 * r] for r in range(first, first + count)]
         return kinds if all(k <= 33 for k in kinds) else None
 
+    def governs(self, i):
+        """The ROM count and first type of a set, by which mangling goes; None where a row of these is lacking or that type is above 33."""
+        row = self.set_row(i)
+        if row is None:
+            return None
+        if row[3] == 0:
+            return 0, 0
+        first = 7 * row[2]
+        if first + 7 > len(self.roms) or self.roms[first] > 33:
+            return None
+        return row[3], self.roms[first]
+
+    def mangle_by(self, governing, address, levels):
+        p = self.pins
+        control = dict(zip(("cs1", "cs2", "cs3", "x1", "x2", "ce", "oe"), p[31:34] + p[37:41]))
+        return mangle.core(p[6], p[15:31], control, *governing, address, [level == 2 for level in levels])
+
     def mangle(self, address, levels):
         if self.pins[0]:
             return 70, 0
         if self.served == 0:
             return 71, 0
-        row = self.set_row(0)
-        if row is None:
+        governing = self.governs(0)
+        if governing is None:
             return 4, 0
-        kind = 0
-        if row[3]:
-            if 7 * row[2] + 7 > len(self.roms) or self.roms[7 * row[2]] > 33:
-                return 4, 0
-            kind = self.roms[7 * row[2]]
-        p = self.pins
-        control = dict(zip(("cs1", "cs2", "cs3", "x1", "x2", "ce", "oe"), p[31:34] + p[37:41]))
-        return mangle.core(p[6], p[15:31], control, row[3], kind, address, [level == 2 for level in levels])
+        return self.mangle_by(governing, address, levels)
+
+    def mangle_own(self, i, address, levels):
+        """Mangling by the named set (document 02, wish 1): 80, the whole 4, 70, and from there on as by set 0."""
+        if i >= self.served:
+            return 80, 0
+        governing = self.governs(i)
+        if governing is None:
+            return 4, 0
+        if self.pins[0]:
+            return 70, 0
+        return self.mangle_by(governing, address, levels)
 
     def demangle(self, byte):
         return mangle.demangle(self.pins[0], self.pins[7:15], byte)
@@ -234,12 +256,14 @@ class Lent:
         number, at = 0, address
         if kind in ("logical", "logical raw"):
             number, at = self.mangle(address, levels)
+        elif kind == "own":
+            number, at = self.mangle_own(i, address, levels)
         if number:
             return number, b"", count
         number, bs = self.data(image, i, at, n)
         if number == 0 and count + n > NONE:
             number = 82
-        if number == 0 and kind in ("raw", "logical"):
+        if number == 0 and kind in ("raw", "logical", "own"):
             number, value = self.demangle(bs[0])
             bs = bytes([value])
         return (number, b"", count) if number else (0, bs, count + n)
@@ -251,7 +275,7 @@ def lent_of(opened, settings, set_words, rom_words):
     return Lent(flash, cs0, opened.line(), opened.part(PINS), opened.served(), left(opened.sets, set_words), left(opened.roms, rom_words))
 
 
-KINDS = ("mangle", "demangle", "size", "same", "data", "raw", "raw raw", "logical", "logical raw")
+KINDS = ("mangle", "demangle", "size", "same", "data", "raw", "raw raw", "logical", "logical raw", "own")
 
 
 class Call:
@@ -278,3 +302,13 @@ class Call:
         if self.kind == "same":
             return lent.same(self.set, self.address)
         return lent.read(image, self.kind, self.set, self.address, self.levels, self.n, self.count)
+
+
+def old_and_own(call, lent, image):
+    """Wish 1, of a read of set 0: the old read accepts where the new one does, with the same byte and count, and so refuse both; but old 71 is
+    new 80, and of old 70 come first the 80 and the 4 that stand before it now."""
+    old = lent.read(image, "logical", call.set, call.address, call.levels, 1, call.count)
+    number = old[0]
+    if number in (70, 71):
+        number = 80 if lent.served == 0 else 4 if lent.governs(0) is None else 70
+    assert call.answer(lent, image) == (number, *old[1:]), (vars(call), old)

@@ -4,12 +4,13 @@ import random, struct
 
 import boards
 import mangle
-from opening import Call, Lent, opening
+from opening import Call, Lent, lent_of, opening
 from records import NONE
 
 B = 0x08000000
 C = 0x10000000
 BANDS = ((0, 3, 9, 1), (0, 4, 0, 0), (0, 5, 0, 7), (0, 5, 1, 0), (0, 6, 0, 0), (0, 6, 9, 0))
+NOT_GIVEN, CS1, X1, X2 = (0, 0, 0, 0, 0), (2, 0, 0, 0, 0), (0, 0, 0, 2, 0), (0, 0, 0, 0, 2)
 SETS_AT = 96
 END = 400
 
@@ -40,6 +41,23 @@ class Report:
 
     def run(self, out):
         out.lent(*self.given)
+
+
+def both(i, address, levels, count=0):
+    """The old logical read and wish 1's, with the same arguments."""
+    return [Call(kind, i, address, levels, 1, count) for kind in ("logical", "own")]
+
+
+def own_beside(rng, calls, lent, image):
+    """Wish 1's read beside each logical one; and both reads of two sets, at a place that the new one accepts where one is found soon."""
+    own = [Call("own", c.set, c.address, c.levels, 1, c.count) for c in calls if c.kind == "logical"]
+    for i in {0, rng.randrange(max(1, lent.served))} - {lent.served}:
+        for _ in range(40):
+            reads = both(i, rng.choice((0, 1, 5, 39, rng.randrange(2048), rng.randrange(65536))), [rng.randrange(3) for _ in range(5)])
+            if reads[1].answer(lent, image)[0] == 0:
+                break
+        own += reads
+    return own
 
 
 # ---- boards for the walk
@@ -290,7 +308,7 @@ def bench_board(kind, roms, pins, version=(0, 4, 0, 0), date=b"T4\0", extra=b"")
 def bench():
     yield from bench_strings()
     m1 = [Call("mangle", 0, a, levels) for a in (0, 5, 8191, 8192) for levels in ((2, 0, 0, 0, 0), (0, 0, 0, 0, 0), (1, 2, 2, 2, 2))]
-    reads = [Call(k, 0, a, (2, 0, 0, 0, 0)) for k in ("logical", "logical raw", "raw", "raw raw") for a in (0, 1, 5, 8191)]
+    reads = [Call(k, 0, a, (2, 0, 0, 0, 0)) for k in ("logical", "logical raw", "raw", "raw raw", "own") for a in (0, 1, 5, 8191)]
     for up in (0, 8):
         pins = boards.pins(24, range(7, -1, -1), [up + p for p in range(13)] + [255] * 3, [up + 13, 255, 255], [255, 255], 255, 255)
         image = bench_board(2, 1, pins)
@@ -350,6 +368,7 @@ def small():
     reads = [Call("data", 0, a, n=n) for a, n in ((0, 68), (0, 1), (67, 1), (10, 0), (68, 0), (0, 69))]
     reads += [Call("data", 1, a, n=n) for a, n in ((0, 600), (100, 200), (590, 10))]
     reads += [Call(k, i, a, (2, 0, 0, 0, 0)) for k in ("raw", "raw raw", "logical", "logical raw") for i in (0, 1) for a in (0, 5, 67)]
+    reads += [Call("own", i, a, levels) for i, a, levels in ((0, 5, CS1), (1, 5, CS1), (1, 0, NOT_GIVEN), (1, 67, NOT_GIVEN), (1, 599, NOT_GIVEN))]
     for version, line, base, logging in (
         ((0, 3, 9, 1), 1, B, 1), ((0, 4, 0, 0), 2, B, 0), ((0, 4, 9, 0), 5, C, 1), ((0, 5, 0, 7), 1, B, 0), ((0, 5, 0, 7), 1, B, 1),
         ((0, 5, 1, 0), 3, B, 0), ((0, 6, 0, 0), 5, C, 0), ((0, 6, 9, 0), 4, B, 1), ((0, 6, 9, 0), 0, 2**32 - 616, 0),
@@ -411,7 +430,7 @@ def some_calls(rng, sets):
 
 
 def altered():
-    rng = random.Random(20261116)
+    rng, own = random.Random(20261116), random.Random(20261117)
     for _ in range(300):
         line = rng.randrange(6)
         size = rng.choice((0, 1, 40, 120, 200))
@@ -424,7 +443,144 @@ def altered():
         sets = [w % 2**32 for w in sets]
         served = rng.choice((0, len(sets) // 8, len(sets) // 8, len(sets) // 8, 1, 2, 255, 300))
         lent = Lent(flash, cs0, line, some_pins(rng), served, sets, roms)
-        yield Report(image, lent, list(some_calls(rng, sets)))
+        calls = list(some_calls(rng, sets))
+        yield Report(image, lent, calls + own_beside(own, calls, lent, image))
+
+
+# ---- the read by the set's own ROMs (document 02, wish 1)
+
+# where the data of every set starts, and the offsets in it that hold a byte of their own; all others hold 0
+DATA_AT = 1024
+MARKED = (0, 5, 2048, 8191, 8192, 8197, 16389)
+
+
+class At(int):
+    """A reply that reads this offset."""
+
+
+def yard_pins(cs1=13, x1=255, x2=255, data=range(7, -1, -1)):
+    """28 pins, A0 to A14 on pins 0 to 14, OE and CE on 15"""
+    return boards.pins(28, data, [*range(15), 255], [cs1, 255, 255], [x1, x2], 15, 15)
+
+
+def yard(kinds, pins=yard_pins(), size=65536, end=65536):
+    """A board of sets whose ROMs have these types, all on the same data, which the image has so many bytes of; and its row words."""
+    sets = [Set([Rom(kind=k) for k in types], data=B + DATA_AT, size=size) for types in kinds]
+    image = bytearray(walk_image((0, 4, 0, 0), sets, end=512))
+    image[48:52] = struct.pack("<I", B + len(image) if pins else 0)
+    image += pins
+    image += bytes(DATA_AT + end - len(image))
+    for i, offset in enumerate(MARKED):
+        if offset < end:
+            image[DATA_AT + offset] = 17 + i
+    return bytes(image), *rows_of(sets)
+
+
+class Told:
+    """Reads on a board: set, address, levels, the old reply and the new one as the papers say or as worked out by hand, each a number or an
+    offset. The board is opened, and lent as it opened; where something of it is altered, lent alone."""
+
+    def __init__(self, given, *reads, count=0, **altered):
+        self.image, self.words, self.reads, self.count, self.altered = given[0], given[1:], reads, count, altered
+
+    def lent(self):
+        lent = lent_of(opening(self.image, (B, C, 0), *self.words), (B, C, 0), *self.words)
+        for name, value in self.altered.items():
+            if isinstance(value, dict):
+                for at, word in value.items():
+                    getattr(lent, name)[at] = word
+            else:
+                setattr(lent, name, value)
+        return lent
+
+    def reply(self, told):
+        """A byte is demangled by the data pins 7 to 0."""
+        if not isinstance(told, At):
+            return told, b"", self.count
+        assert told in MARKED
+        return 0, bytes([int("{:08b}".format(self.image[DATA_AT + told])[::-1], 2)]), self.count + 1
+
+    def run(self, out):
+        lent, calls = self.lent(), []
+        for i, address, levels, *told in self.reads:
+            for call, answer in zip(both(i, address, levels, self.count), told):
+                assert call.answer(lent, self.image) == self.reply(answer), (vars(call), call.answer(lent, self.image), answer)
+                calls.append(call)
+        if not self.altered:
+            cuts = {0, len(self.image)} | {DATA_AT + offset + k for offset in MARKED for k in (0, 1)}
+            out.board(self.image, (B, C, 0), *self.words, calls, sorted(n for n in cuts if n <= len(self.image)))
+        out.lent(self.image, lent, calls)
+
+
+def own_papers():
+    """The cases that the papers give: set 0 a 2364, set 1 a 27256, or as said."""
+    mixed, no_pins = yard([[2], [12]]), yard([[2], [12]], pins=b"")
+    yield Told(mixed, (1, 8192, NOT_GIVEN, 77, At(8192)), (1, 5, CS1, At(8197), At(5)), (0, 5, CS1, At(8197), At(8197)))
+    yield Told(no_pins, (2, 5, CS1, 70, 80))
+    yield Told(no_pins, (1, 5, CS1, 70, 4), sets=[B + DATA_AT, 65536, 0, 1, 0, 0, 0, 0])
+    yield Told(yard([]), (0, 5, CS1, 71, 80))
+    yield Told(yard([[], [12]]), (1, 8192, NOT_GIVEN, 74, At(8192)))
+    yield Told(yard([[2], []]), (1, 5, CS1, 4, 74), roms=[])
+    yield Told(yard([[2, 2], [12]], yard_pins(x1=5, x2=15)), (1, 8192, NOT_GIVEN, 73, At(8192)))
+    yield Told(mixed, (0, 5, CS1, 4, 4), (1, 5, CS1, 4, At(5)), (1, 8192, NOT_GIVEN, 4, At(8192)), roms={0: 34})
+
+
+def own_rows():
+    """1, 80 and 4: rows that are lacking or end early, and row numbers whose words pass 2^32. Set 1's row has its first ROM row in word 10 and
+    its ROM count in word 11."""
+    mixed, no_pins = yard([[2], [12]]), yard([[2], [12]], pins=b"")
+    yield Told(mixed, (2, 5, CS1, 1, 1), flash=NONE)
+    yield Told(mixed, (0, 5, CS1, 4, 4), (1, 5, CS1, 4, 4), (2, 5, CS1, 4, 80), sets=[])
+    yield Told(mixed, (2, 5, CS1, 4, 4), (2**29, 5, CS1, 4, 4), (2**29 + 1, 5, CS1, 4, 4), (NONE, 5, CS1, 80, 80), served=NONE)
+    sets = [B + DATA_AT, 65536, 0, 1, 0, 0, 0, 0] + [B + DATA_AT, 65536, 1, 1, 0, 0, 0]
+    yield Told(mixed, (0, 5, CS1, At(8197), At(8197)), (1, 5, CS1, 4, 4), sets=sets)
+    two = [2, 0, 0, 0, 0, 0, 1] + [12, 0, 0, 0, 0, 0, 1]
+    yield Told(mixed, (0, 5, CS1, At(8197), At(8197)), (1, 8192, NOT_GIVEN, 77, 4), roms=two[:13])
+    yield Told(mixed, (0, 5, CS1, At(8197), At(8197)), (1, 8192, NOT_GIVEN, 77, 77), (1, 5, CS1, At(8197), At(8197)), roms=two[:7], sets={10: 0})
+    for first in (2, 613566756, 613566757, NONE):
+        yield Told(mixed, (1, 5, CS1, At(8197), 4), sets={10: first})
+        yield Told(mixed, (1, 5, CS1, At(8197), 74), sets={10: first, 11: 0})
+        yield Told(mixed, (0, 5, CS1, 4, 4), (1, 5, CS1, 4, At(5)), sets={2: first})
+    for kind, old, new in ((33, At(8197), 75), (34, At(8197), 4), (NONE, At(8197), 4)):
+        yield Told(mixed, (1, 5, CS1, old, new), roms={7: kind})
+        yield Told(no_pins, (1, 5, CS1, 70, 4 if new == 4 else 70), (0, 5, CS1, 70, 70), roms={7: kind})
+    yield Told(no_pins, (1, 5, CS1, 70, 70), sets={11: 0})
+
+
+def own_refusals():
+    """72 to 79, 81, 2 and 82 of the named set, beside a set 0 that has none of them or others."""
+    mixed = yard([[2], [12]])
+    for count in (2, 255, NONE):
+        # of several ROMs the first row is needed alone
+        yield Told(mixed, (1, 5, CS1, At(8197), 72), sets={11: count})
+    yield Told(yard([[2], [12]], yard_pins(x1=5, x2=15)), (1, 5, CS1, At(8197), 73), sets={11: 2})
+    yield Told(yard([[2], [12]], yard_pins(x1=15, x2=5)), (1, 5, CS1, At(8197), 73), sets={11: 2})
+    # X1 raises bit 14, which A14's pin shows, and X2 bit 15, which no pin does: OE and CE stand on 15
+    several = (1, 5, X1, At(5), At(16389)), (1, 5, X2, At(5), At(5)), (1, 8192, NOT_GIVEN, 77, At(8192)), (0, 5, X1, At(5), At(5))
+    yield Told(yard([[2], [12, 2]], yard_pins(x1=15, x2=15)), *several)
+    yield Told(yard([[12, 12], [12]], yard_pins(x1=15, x2=15)), (0, 5, X1, At(16389), At(16389)), (1, 5, X1, At(16389), At(5)))
+    yield Told(yard([[12], [2]], yard_pins(cs1=255)), (1, 5, CS1, At(5), 76), (1, 8192, CS1, At(8192), 76))
+    yield Told(yard([[12], [33]], yard_pins(cs1=255)), (1, 5, CS1, At(5), 75))
+    yield Told(yard([[2], [26]]), (1, 2048, NOT_GIVEN, At(2048), 77), (1, 5, NOT_GIVEN, At(5), 78))
+    yield Told(yard([[2], [26]], size=4), (1, 5, NOT_GIVEN, 81, 78))
+    ends = (1, 8191, NOT_GIVEN, At(8191), At(8191))
+    yield Told(yard([[2], [12]], size=8192, end=8000), (1, 8192, NOT_GIVEN, 77, 81), (1, 5, CS1, 81, At(5)), (1, 8191, NOT_GIVEN, 2, 2))
+    yield Told(yard([[2], [12]], size=8192), ends, (1, 8192, NOT_GIVEN, 77, 81), (1, 5, CS1, 81, At(5)))
+    yield Told(yard([[2], [12]], end=8192), ends, (1, 8192, NOT_GIVEN, 77, 2), (1, 5, CS1, 2, At(5)))
+    yield Told(mixed, (1, 0, NOT_GIVEN, 2, 2), (0, 5, CS1, At(8197), At(8197)), sets={8: B - 1})
+    yield Told(mixed, (1, 5, CS1, 2, 2), (0, 5, CS1, At(8197), At(8197)), sets={8: NONE})
+    yield Told(mixed, (1, 8192, NOT_GIVEN, 77, At(8192)), (1, 5, CS1, At(8197), At(5)), count=NONE - 1)
+    yield Told(mixed, (1, 8192, NOT_GIVEN, 77, 82), (1, 5, CS1, 82, 82), (1, 32768, CS1, 77, 77), count=NONE)
+    yield Told(yard([[2], [12]], size=8192, end=8000), (1, 8192, NOT_GIVEN, 77, 81), (1, 8191, NOT_GIVEN, 2, 2), count=NONE)
+    no_data = yard([[2], [12]], yard_pins(data=[7, 6, 5, 4, 3, 2, 1, 8]), end=8192)
+    yield Told(no_data, (1, 5, CS1, 2, 79), (1, 8192, NOT_GIVEN, 77, 2), (1, 32768, CS1, 77, 77))
+    yield Told(no_data, (1, 5, CS1, 2, 82), count=NONE)
+
+
+def own():
+    yield from own_papers()
+    yield from own_rows()
+    yield from own_refusals()
 
 
 GROUPS = [
@@ -436,4 +592,5 @@ GROUPS = [
     ("bench cases", bench),
     ("small boards cut at every length", small),
     ("rows altered at random", altered),
+    ("reads by the set's own ROMs", own),
 ]

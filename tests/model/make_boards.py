@@ -11,11 +11,11 @@ A record of stdin is its length and then, packed (see `packed`), ten words, the 
         cuts a line on demand 3: what failed, cuts, refused, ended, equal, reads that a cut accepted, the sum over all answers of the cuts.
     76  flash base, CS0 base, line, set words, ROM words, image length, calls, sets served, pins number; the pins' 88 bytes, the rows, the calls
         Calls on a report and rows as lent. One line.
-A call is 16 bytes: kind, levels (five digits to base 3, CS1 the lowest), u16 length, set, address, count. tests/data/boards-vectors.xz and
-lent-vectors.xz are answers of another reader of document 01, the boards of oracle-sample.txt the Rust's; where one differs from opening.py, this
-script stops.
+A call is 16 bytes: kind, levels (five digits to base 3, CS1 the lowest), u16 length, set, address, count. tests/data/boards-vectors.xz,
+lent-vectors.xz and own-vectors.xz are answers of another reader of the documents, the boards of oracle-sample.txt the Rust's; where one differs
+from opening.py, this script stops.
 """
-import re, struct
+import random, re, struct
 
 import cases, files, given, opening, oracle
 from opening import KINDS, NONE
@@ -80,6 +80,8 @@ def reply_words(call, lent, image):
 def calls_line(calls, lent, image):
     parts = []
     for c in calls:
+        if c.kind == "own" and c.set == 0:
+            opening.old_and_own(c, lent, image)
         words = reply_words(c, lent, image)
         parts.append(" ".join(map(str, [words[0], words[1]] + ([words[2]] if c.reads() else []))))
     return ", ".join(parts)
@@ -169,15 +171,35 @@ def the_rusts(out):
         out.board(image, settings, set_words, rom_words, [c for c in calls if c.n < 65536], opened=o)
 
 
+def the_other_readers(out):
+    """The boards and reports that another reader of the documents answered; the new read stands beside its logical reads, answered by the model."""
+    rng = random.Random(20261118)
+    boards = calls = 0
+    for i, (image, settings, set_words, rom_words, o, asked) in enumerate(given.boards()):
+        own = cases.own_beside(rng, asked, opening.lent_of(o, settings, set_words, rom_words), image)
+        out.board(image, settings, set_words, rom_words, asked + own, cuts_of(o, len(image), len(image) <= 1100 or i % 20 == 0), o)
+        boards, calls = boards + 1, calls + len(asked)
+    print("the other reader's boards agree:", boards, "boards,", calls, "calls;", out.cuts, "cuts")
+    reports = calls = 0
+    for image, lent, asked in given.lent():
+        out.lent(image, lent, asked + cases.own_beside(rng, asked, lent, image))
+        reports, calls = reports + 1, calls + len(asked)
+    print("the other reader's lent rows agree:", reports, "reports,", calls, "calls")
+
+
+def the_other_readers_own(out):
+    records, calls, cuts = out.records, out.calls, out.cuts
+    for given_board in given.own_boards():
+        out.board(*given_board)
+    for given_report in given.own_lent():
+        out.lent(*given_report)
+    print("the other reader's reads of wish 1 agree: %d records, %d calls, %d cuts" % (out.records - records, out.calls - calls, out.cuts - cuts))
+
+
 def main():
     out = Out()
-    for i, (image, settings, set_words, rom_words, o, calls) in enumerate(given.boards()):
-        out.board(image, settings, set_words, rom_words, calls, cuts_of(o, len(image), len(image) <= 1100 or i % 20 == 0), o)
-    print("the other reader's boards agree:", out.records, "boards,", out.calls, "calls;", out.cuts, "cuts")
-    records, calls = out.records, out.calls
-    for image, lent, cs in given.lent():
-        out.lent(image, lent, cs)
-    print("the other reader's lent rows agree:", out.records - records, "reports,", out.calls - calls, "calls")
+    the_other_readers(out)
+    the_other_readers_own(out)
     records, calls = out.records, out.calls
     the_rusts(out)
     print("the Rust's boards agree:", out.records - records, "boards,", out.calls - calls, "calls")

@@ -129,7 +129,7 @@ fn data(image: &[u8], board: Board, sets: &[u32], call: Call, buffer: &mut [u8])
     }
 }
 
-// Kinds 5 and 7 are demangled.
+// Kinds 5 to 8; 5 and 7 are demangled.
 fn byte(image: &[u8], board: Board, sets: &[u32], roms: &[u32], call: Call) -> Reply {
     let a = address(call);
     let r = if call.kind % 2 == 1 {
@@ -137,6 +137,24 @@ fn byte(image: &[u8], board: Board, sets: &[u32], roms: &[u32], call: Call) -> R
     } else {
         byte_reads::read_rom_byte_raw(image, board, sets, roms, call.set, a, call.count)
     };
+    Reply {
+        number: r.number,
+        value: r.byte as u32,
+        count: r.count,
+    }
+}
+
+fn own(image: &[u8], board: Board, sets: &[u32], roms: &[u32], call: Call) -> Reply {
+    let r = own_reads::read_rom_byte_own(
+        image,
+        board,
+        sets,
+        roms,
+        call.set,
+        call.address,
+        levels(call.levels),
+        call.count,
+    );
     Reply {
         number: r.number,
         value: r.byte as u32,
@@ -155,6 +173,9 @@ pub(crate) fn read(
 ) -> Reply {
     if call.kind == 4 {
         return data(image, board, sets, call, buffer);
+    }
+    if call.kind == 9 {
+        return own(image, board, sets, roms, call);
     }
     byte(image, board, sets, roms, call)
 }

@@ -22,7 +22,7 @@
 /* The header's version. The major number goes up where a program that uses this header may have to change, the minor one where
  * something is added. ONEROM_VERSION puts both in one number, for #if. */
 #define ONEROM_VERSION_MAJOR 1
-#define ONEROM_VERSION_MINOR 0
+#define ONEROM_VERSION_MINOR 1
 #define ONEROM_VERSION (ONEROM_VERSION_MAJOR * 1000 + ONEROM_VERSION_MINOR)
 
 /* The usual settings of a board: where its flash and its RAM stand, and the header's place in the flash. */
@@ -82,8 +82,8 @@ enum onerom_number {
     ONEROM_REFUSED_NO_SETS = 71,
     ONEROM_REFUSED_X_PIN = 72,       /* X1 or X2 at 16 or above */
     ONEROM_REFUSED_X_MAPPED = 73,    /* an address line has the pin of X1 or X2 */
-    ONEROM_REFUSED_NO_ROM = 74,      /* in set 0 */
-    ONEROM_REFUSED_UNSUPPORTED = 75, /* a type that mangling does not cover */
+    ONEROM_REFUSED_NO_ROM = 74,      /* in the set that governs: set 0, or for onerom_read_rom_byte_own the named one */
+    ONEROM_REFUSED_UNSUPPORTED = 75, /* its first ROM is of a type that mangling does not cover */
     ONEROM_REFUSED_CONTROL_PIN = 76, /* one that the type uses at 16 or above */
     ONEROM_REFUSED_ADDRESS = 77,     /* above the type's last */
     ONEROM_REFUSED_ROM28C16 = 78,
@@ -126,8 +126,8 @@ static inline const char *onerom_reason(uint32_t number)
     case ONEROM_REFUSED_NO_SETS: return "the board serves no set";
     case ONEROM_REFUSED_X_PIN: return "X1 or X2 is not on one of the sixteen pins that are read";
     case ONEROM_REFUSED_X_MAPPED: return "X1 or X2 is at a pin that an address line has";
-    case ONEROM_REFUSED_NO_ROM: return "set 0 has no ROM";
-    case ONEROM_REFUSED_UNSUPPORTED: return "set 0's first ROM is of a type that logical reads do not cover";
+    case ONEROM_REFUSED_NO_ROM: return "the set that governs has no ROM";
+    case ONEROM_REFUSED_UNSUPPORTED: return "the governing set's first ROM is of a type that logical reads do not cover";
     case ONEROM_REFUSED_CONTROL_PIN: return "a control pin of the type is not on one of the sixteen pins that are read";
     case ONEROM_REFUSED_ADDRESS: return "the address is above the ROM's last";
     case ONEROM_REFUSED_ROM28C16: return "logical reads do not cover a 28C16";
@@ -226,7 +226,8 @@ enum onerom_control {
 
 /* A logical address becomes the offset of its byte in a set.
  *
- * IT GOES BY SET 0's ROM COUNT AND FIRST ROM TYPE, WHICHEVER SET IS READ AT THE OFFSET.
+ * IT GOES BY SET 0's ROM COUNT AND FIRST ROM TYPE, WHICHEVER SET IS READ AT THE OFFSET. For a byte by the ROMs of the set that is read take
+ * onerom_read_rom_byte_own.
  *
  * pins_number    the pins item's number
  * rom_pins       the pins record's ROM pins byte
@@ -521,7 +522,8 @@ uint32_t onerom_read_rom_set_data(const uint8_t *image, size_t image_len, uint32
 /* One byte of a set as stored (raw), or as it is served (demangled).
  *
  * A LOGICAL READ GOES BY SET 0's ROM COUNT AND FIRST ROM TYPE, WHICHEVER SET IS NAMED. Where those of the named set differ, the byte may be
- * another than the one that the set serves at the address.
+ * another than the one that the set serves at the address. So the Rust reads, and so were tables made that are already sold: for those take
+ * this one. For what a set's socket sees take onerom_read_rom_byte_own.
  *
  * logical  1: address is logical and is mangled with its levels, as by onerom_mangle. Any other: address is the byte's offset.
  * levels   as in enum onerom_level; lent for every address, looked at for a logical one
@@ -536,6 +538,44 @@ uint32_t onerom_read_rom_byte_demangled(const uint8_t *image, size_t image_len, 
                                         struct onerom_report report, const uint32_t *set_rows, size_t set_words,
                                         const uint32_t *rom_rows, size_t rom_words, uint32_t set, uint8_t logical,
                                         uint32_t address, const uint8_t levels[ONEROM_LEVELS], uint32_t *count, uint8_t *value);
+
+/* One byte of a set as its socket sees it: at a logical address, demangled.
+ *
+ * IT GOES BY THE NAMED SET's OWN ROM COUNT AND FIRST ROM TYPE. Take it for what a set's socket sees; take the two reads above for what must
+ * be as the Rust reads it, or as it stands in tables already sold.
+ *
+ * set      the set that is read, and that governs
+ * address  a logical one, mangled with its levels as by onerom_mangle, but by the set's own ROMs
+ * levels   as in enum onerom_level; X1 and X2 count where the set has several ROMs
+ * count    the served count, as for onerom_read_rom_set_data: one more where the byte is accepted
+ * value    the byte, written where it is accepted
+ *
+ * In this order:
+ *  1   either base plus image length exceeds 2^32
+ * 80   no such set
+ *  4   the set's row isn't among those lent; or, unless the set has no ROM, its first ROM row isn't, or that row's type is above 33
+ * 70   no pins
+ * 72   the set has several ROMs, and X1 or X2 is at 16 or above
+ * 73   it has several ROMs, and an address line has the pin of X1 or X2
+ * 74   it has no ROM
+ * 75   its first ROM is of an unsupported type
+ * 76   a control pin that the type uses is at 16 or above
+ * 77   the address is above the type's mask
+ * 78   28C16
+ * 81   the byte's offset is not below the set's size
+ *  2   the byte is not within the image
+ * 82   the served count would pass 4,294,967,295
+ * 79   a data pin is at 8 or above
+ * 72, 73 and 76 are judged after base-zero. 71 cannot come: without sets there is no such set. Rows of other sets, set 0's among them, are
+ * not looked at.
+ *
+ * On set 0 it accepts exactly where onerom_read_rom_byte_demangled accepts the same logical address, with the same byte and count. Where
+ * that one answers 71, this one answers 80; where that one answers 70, this one answers 80 if no set is served, otherwise 4 if 4 applies,
+ * otherwise 70. All other numbers are the same. */
+uint32_t onerom_read_rom_byte_own(const uint8_t *image, size_t image_len, uint32_t flash_base, uint32_t cs0_base,
+                                  struct onerom_report report, const uint32_t *set_rows, size_t set_words,
+                                  const uint32_t *rom_rows, size_t rom_words, uint32_t set, uint32_t address,
+                                  const uint8_t levels[ONEROM_LEVELS], uint32_t *count, uint8_t *value);
 
 #ifdef __cplusplus
 }

@@ -125,6 +125,17 @@ pub const TYPE_ROM23QL384: u32 = 31;
 pub const TYPE_ROM23C1001: u32 = 32;
 pub const TYPE_ROM27C200: u32 = 33;
 
+// ---- levels, in their order; one is high at `HIGH`, and low at every other value
+
+pub const LEVEL_CS1: usize = 0;
+pub const LEVEL_CS2: usize = 1;
+pub const LEVEL_CS3: usize = 2;
+pub const LEVEL_X1: usize = 3;
+pub const LEVEL_X2: usize = 4;
+pub const LEVELS: usize = 5;
+pub const LOW: u8 = 0;
+pub const HIGH: u8 = 1;
+
 // ---- items, as `Report::items` lists them
 
 pub const ITEM_BUILD_DATE: usize = 0;
@@ -205,8 +216,8 @@ pub fn reason(number: u32) -> &'static str {
         REFUSED_NO_SETS => "the board serves no set",
         REFUSED_X_PIN => "X1 or X2 is not on one of the sixteen pins that are read",
         REFUSED_X_MAPPED => "X1 or X2 is at a pin that an address line has",
-        REFUSED_NO_ROM => "set 0 has no ROM",
-        REFUSED_UNSUPPORTED => "set 0's first ROM is of a type that logical reads do not cover",
+        REFUSED_NO_ROM => "the set that governs has no ROM",
+        REFUSED_UNSUPPORTED => "the governing set's first ROM is of a type that logical reads do not cover",
         REFUSED_CONTROL_PIN => "a control pin of the type is not on one of the sixteen pins that are read",
         REFUSED_ADDRESS => "the address is above the ROM's last",
         REFUSED_ROM28C16 => "logical reads do not cover a 28C16",
@@ -379,6 +390,22 @@ unsafe extern "C" {
         buffer_len: usize,
         count: *mut u32,
     ) -> u32;
+    fn onerom_read_rom_byte_own(
+        image: *const u8,
+        image_len: usize,
+        flash_base: u32,
+        cs0_base: u32,
+        report: Report,
+        set_rows: *const u32,
+        set_words: usize,
+        rom_rows: *const u32,
+        rom_words: usize,
+        set: u32,
+        address: u32,
+        levels: *const u8,
+        count: *mut u32,
+        value: *mut u8,
+    ) -> u32;
 }
 
 /// Where the image stands.
@@ -495,5 +522,29 @@ impl<'a> Board<'a> {
                 &mut self.count,
             )
         })
+    }
+
+    /// The byte that a set's socket sees at a logical address: the set's own ROM count and first type govern, whichever set it is.
+    pub fn read_rom_byte_own(&mut self, set: u32, address: u32, levels: &[u8; LEVELS]) -> Result<u8, Refused> {
+        let mut value = 0;
+        accepted(unsafe {
+            onerom_read_rom_byte_own(
+                self.image.as_ptr(),
+                self.image.len(),
+                self.settings.flash_base,
+                self.settings.cs0_base,
+                self.report,
+                self.set_rows.as_ptr(),
+                self.set_rows.len(),
+                self.rom_rows.as_ptr(),
+                self.rom_rows.len(),
+                set,
+                address,
+                levels.as_ptr(),
+                &mut self.count,
+                &mut value,
+            )
+        })?;
+        Ok(value)
     }
 }

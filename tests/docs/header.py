@@ -19,8 +19,8 @@ DEFINED = (
     ("romPlace", "", "ROM_"),
 )
 # constants that the Rust wrapper has too
-IN_RUST = ("LINE_", "STORAGE_", "PORT_", "PIO_", "SET_", "ROM_", "SERVE_", "STATE_", "TYPE_", "ITEM_", "ACCEPTED", "REFUSED_", "MAX_", "NO_NAME",
-           "FLASH_BASE", "CS0_BASE", "INFO_OFFSET")
+IN_RUST = ("LINE_", "STORAGE_", "PORT_", "PIO_", "SET_", "ROM_", "SERVE_", "STATE_", "TYPE_", "LEVEL", "LOW", "HIGH", "ITEM_", "ACCEPTED", "REFUSED_",
+           "MAX_", "NO_NAME", "FLASH_BASE", "CS0_BASE", "INFO_OFFSET")
 
 
 def text(name):

@@ -1,4 +1,5 @@
-/* Opens a dump of a board's flash, lists its sets, says which are the same, and reads the first bytes of each.
+/* Opens a dump of a board's flash, lists its sets, says which are the same, and reads the first bytes of each: as they are stored, and as its socket
+ * sees them with every line low.
  *
  *     rt staticlib onerom
  *     cc -Iinclude examples/c/board.c target/staticlib/libonerom.a -o board && ./board DUMP */
@@ -106,6 +107,26 @@ static void print_same(uint32_t served)
         }
 }
 
+/* The first bytes of a set as its socket sees them, by its own ROMs; answers the first refusal, if there is one. */
+static uint32_t at_socket(const uint8_t *image, size_t len, const struct onerom_opening *o, uint32_t set, uint8_t front[4], uint32_t *count)
+{
+    static const uint8_t low[ONEROM_LEVELS] = {ONEROM_LOW, ONEROM_LOW, ONEROM_LOW, ONEROM_LOW, ONEROM_LOW};
+    uint32_t number = ONEROM_ACCEPTED;
+    for (uint32_t address = 0; address < 4 && number == ONEROM_ACCEPTED; address++)
+        number = onerom_read_rom_byte_own(image, len, ONEROM_FLASH_BASE, ONEROM_CS0_BASE, o->report, set_rows, SET_WORDS, rom_rows, ROM_WORDS, set,
+                                          address, low, count, &front[address]);
+    return number;
+}
+
+/* The bytes, or why there are none. */
+static void print_read(uint32_t number, const char *what, const uint8_t front[4])
+{
+    if (number == ONEROM_ACCEPTED)
+        printf("%s%02x %02x %02x %02x", what, front[0], front[1], front[2], front[3]);
+    else
+        printf("refused %" PRIu32 ": %s", number, onerom_reason(number));
+}
+
 /* Prints a line for each set, and answers how many bytes were read. */
 static uint32_t print_sets(const uint8_t *image, size_t len, const struct onerom_opening *o)
 {
@@ -113,15 +134,17 @@ static uint32_t print_sets(const uint8_t *image, size_t len, const struct onerom
     for (uint32_t i = 0; i < o->report.rom_sets.served; i++) {
         const uint32_t *set = set_rows + i * ONEROM_SET_WORDS;
         const uint32_t roms = set[ONEROM_SET_ROM_COUNT];
-        uint8_t front[4];
+        uint8_t front[4], seen[4];
         uint32_t number = onerom_read_rom_set_data(image, len, ONEROM_FLASH_BASE, ONEROM_CS0_BASE, o->report, set_rows, SET_WORDS, i, 0,
                                                    front, sizeof front, &count);
+        uint32_t own = at_socket(image, len, o, i, seen, &count);
         printf("set %" PRIu32 ": %" PRIu32 " bytes, %" PRIu32 " ROM%s, ", i, set[ONEROM_SET_SIZE], roms, roms == 1 ? "" : "s");
         print_name(image, set);
-        if (number == ONEROM_ACCEPTED)
-            printf(", starts %02x %02x %02x %02x\n", front[0], front[1], front[2], front[3]);
-        else
-            printf(", refused %" PRIu32 ": %s\n", number, onerom_reason(number));
+        printf(", ");
+        print_read(number, "starts ", front);
+        printf(", at its socket ");
+        print_read(own, "", seen);
+        printf("\n");
     }
     return count;
 }

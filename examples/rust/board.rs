@@ -1,11 +1,12 @@
-//! Opens a dump of a board's flash, lists its sets, says which are the same, and reads the first bytes of each.
+//! Opens a dump of a board's flash, lists its sets, says which are the same, and reads the first bytes of each: as they are stored, and as its socket
+//! sees them with every line low.
 //!
 //!     rt staticlib onerom
 //!     rustc --edition 2024 examples/rust/board.rs -L target/staticlib -l static=onerom -o board && ./board DUMP
 
 mod onerom;
 
-use onerom::{Board, MAX_ROMS, Refused, SET_FIRST_ROM, SET_ROM_COUNT, SET_SIZE, Settings};
+use onerom::{Board, LEVELS, LOW, MAX_ROMS, Refused, SET_FIRST_ROM, SET_ROM_COUNT, SET_SIZE, Settings};
 use std::process::ExitCode;
 
 /// Characters that a reader does not see, and that can change how the rest of a line looks.
@@ -36,6 +37,19 @@ fn shown(text: &[u8]) -> String {
     line
 }
 
+/// The first bytes of a set as its socket sees them, by its own ROMs; the first refusal, if there is one.
+fn at_socket(board: &mut Board, set: u32) -> Result<[u8; 4], Refused> {
+    let mut front = [0; 4];
+    for (address, byte) in (0..).zip(&mut front) {
+        *byte = board.read_rom_byte_own(set, address, &[LOW; LEVELS])?;
+    }
+    Ok(front)
+}
+
+fn hex(bytes: &[u8; 4]) -> String {
+    format!("{:02x} {:02x} {:02x} {:02x}", bytes[0], bytes[1], bytes[2], bytes[3])
+}
+
 fn list(image: &[u8]) -> Result<(), Refused> {
     let mut board = Board::open(image, Settings::default(), MAX_ROMS)?;
     let h = board.report.header;
@@ -45,13 +59,18 @@ fn list(image: &[u8]) -> Result<(), Refused> {
         let row = board.set(i).expect("a served set has a row").to_vec();
         let mut front = [0; 4];
         let read = board.read(i, 0, &mut front);
+        let seen = at_socket(&mut board, i);
         let name = if row[SET_ROM_COUNT] == 0 { None } else { board.name(row[SET_FIRST_ROM]) };
         let name = name.map_or("(no name)".to_string(), |name| shown(name.as_bytes()));
         let plural = if row[SET_ROM_COUNT] == 1 { "" } else { "s" };
         print!("set {i}: {} bytes, {} ROM{plural}, {name}", row[SET_SIZE], row[SET_ROM_COUNT]);
         match read {
-            Ok(()) => println!(", starts {:02x} {:02x} {:02x} {:02x}", front[0], front[1], front[2], front[3]),
-            Err(refused) => println!(", {refused}"),
+            Ok(()) => print!(", starts {}", hex(&front)),
+            Err(refused) => print!(", {refused}"),
+        }
+        match seen {
+            Ok(front) => println!(", at its socket {}", hex(&front)),
+            Err(refused) => println!(", at its socket {refused}"),
         }
     }
     for a in 0..served {

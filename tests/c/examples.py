@@ -41,8 +41,12 @@ def names(program, at):
 def counts(program, at):
     board = made.board_of([make.RomSet([], 64, 1), make.RomSet([make.Rom("jib.bin", make.ROM_2316)] * 2, 2048, 1)])
     status, out, err = run(program, put(at, "counts.img", bytes(board.image().bytes)))
-    got = [line.rsplit(", starts ")[0] for line in out.split("\n") if line.startswith("set ")]
+    lines = [line for line in out.split("\n") if line.startswith("set ")]
+    got = [line.rsplit(", starts ")[0] for line in lines]
     same((status, err, got), (0, "", ["set 0: 64 bytes, 0 ROMs, (no name)", "set 1: 2048 bytes, 2 ROMs, jib.bin"]), "ROMs are counted")
+    # each set by its own ROMs: none, and two on a board that has no X1 and X2
+    got = [line.split(", at its socket ")[1] for line in lines]
+    same(got, ["refused 74: the set that governs has no ROM", "refused 72: X1 or X2 is not on one of the sixteen pins that are read"], "refused at the socket")
 
 
 def refusals(program, at):

@@ -176,6 +176,98 @@ static void reads(uint32_t line, uint32_t base) {
     expect(onerom_same_set(1, rows[0], 8, rows[1], 6, 0, 0, &v) == 4 && v == 77, "4, same set");
 }
 
+static struct onerom_report own_report;
+static uint8_t own_image[1552];
+
+/* The byte that a set's socket sees at an address, with rows for two sets of a ROM each. */
+static uint32_t own(uint32_t set, uint32_t address, uint32_t *count, uint8_t *value) {
+    static const uint8_t low[ONEROM_LEVELS];
+    *value = 77;
+    return onerom_read_rom_byte_own(own_image, 1552, FLASH, CS0, own_report, rows[0], 16, rows[1], 14, set, address, low, count, value);
+}
+
+/* Refused with the number, count and value as they were. */
+static void own_refused(uint32_t number, uint32_t set, uint32_t address, const char *what) {
+    uint32_t count = 3;
+    uint8_t b;
+    expect(own(set, address, &count, &b) == number && count == 3 && b == 77, what);
+}
+
+/* Two sets with the same 16 bytes; set 0's ROM is of a type that logical reads do not cover. */
+static void own_board(uint32_t line, uint32_t base) {
+    small_board(own_image, line, base);
+    own_report = open_board(own_image, sizeof own_image, 16, 16).report;
+    own_report.rom_sets.served = 2;
+    memcpy(rows[0] + 8, rows[0], 32);
+    memcpy(rows[1] + 7, rows[1], 28);
+    rows[0][8 + ONEROM_SET_FIRST_ROM] = 1;
+    rows[1][ONEROM_ROM_TYPE] = ONEROM_TYPE_ROM2704;
+}
+
+static void own_reads(uint32_t line, uint32_t base) {
+    static const uint8_t cs1[ONEROM_LEVELS] = {ONEROM_HIGH};
+    uint32_t count = 0, *set = rows[0] + 8, *rom = rows[1] + 7, kept[16];
+    uint8_t b;
+    own_board(line, base);
+    expect(own(1, 5, &count, &b) == 0 && b == 170 && count == 1, "a byte by the set's own ROMs");
+    count = 4294967294u;
+    expect(own(1, 15, &count, &b) == 0 && b == 255 && count == 4294967295u, "the last byte, up to 82");
+    expect(own(1, 15, &count, &b) == 82 && b == 77 && count == 4294967295u, "82, own");
+    own_refused(75, 0, 5, "set 0 by its own");
+    own_refused(80, 2, 5, "80, own");
+    own_refused(80, 4294967295u, 5, "80, own, the last number");
+    own_refused(77, 1, 8192, "77, own");
+    own_refused(81, 1, 16, "81, own");
+
+    memcpy(kept, set, 32);
+    set[ONEROM_SET_ROM_COUNT] = 0;
+    own_refused(74, 1, 5, "74, own");
+    set[ONEROM_SET_ROM_COUNT] = 2;
+    own_refused(72, 1, 5, "72, own");
+    own_report.pins.x1 = 14;
+    own_report.pins.x2 = 3;
+    own_refused(73, 1, 5, "73, own");
+    memcpy(set, kept, 32);
+    set[ONEROM_SET_FIRST_ROM] = 2;
+    own_refused(4, 1, 5, "4, own: the first ROM's row");
+    memcpy(set, kept, 32);
+    set[ONEROM_SET_DATA_POINTER] = base + 1552 - 5;
+    own_refused(2, 1, 5, "2, own");
+    memcpy(set, kept, 32);
+
+    rom[ONEROM_ROM_TYPE] = 34;
+    own_refused(4, 1, 5, "4, own: the type");
+    rom[ONEROM_ROM_TYPE] = ONEROM_TYPE_ROM2704;
+    own_refused(75, 1, 5, "75, own");
+    rom[ONEROM_ROM_TYPE] = ONEROM_TYPE_ROM28C16;
+    own_refused(76, 1, 5, "76, own");
+    own_report.pins.ce = own_report.pins.oe = 15;
+    own_refused(78, 1, 5, "78, own");
+    rom[ONEROM_ROM_TYPE] = ONEROM_TYPE_ROM2364;
+
+    own_report.pins.data[0] = 8;
+    own_refused(79, 1, 5, "79, own");
+    own_report.pins.number = 50;
+    own_refused(70, 1, 5, "70, own");
+    own_report.rom_sets.served = 0;
+    own_refused(80, 0, 5, "80, own: nothing is served");
+
+    own_board(line, base);
+    count = 3;
+    b = 77;
+#define OWN(image_len, flash_base, cs0_base, set_words, rom_words) \
+    onerom_read_rom_byte_own(own_image, image_len, flash_base, cs0_base, own_report, rows[0], set_words, rows[1], rom_words, 1, 5, cs1, &count, &b)
+    expect(OWN(1552, 4294967295u, CS0, 16, 14) == 1 && OWN(1552, FLASH, 4294967295u, 16, 14) == 1, "1, own, looks at both bases");
+    expect(OWN(1552, FLASH, CS0, 15, 14) == 4 && OWN(1552, FLASH, CS0, 16, 13) == 4, "4, own: rows that are not lent");
+    expect(OWN(1552, FLASH, CS0, 16, 14) == 81, "CS1 raises its pin");
+    set[ONEROM_SET_SIZE] = 65536;
+    expect(OWN(1552, FLASH, CS0, 16, 14) == 2 && count == 3 && b == 77, "2, own, and nothing was written by any of these");
+    set[ONEROM_SET_ROM_COUNT] = 0;
+    expect(onerom_read_rom_byte_own(NULL, 0, FLASH, CS0, own_report, rows[0], 16, NULL, 0, 1, 5, cs1, &count, &b) == 74, "74, own, needs no ROM row");
+    expect(onerom_read_rom_byte_own(NULL, 0, FLASH, CS0, own_report, NULL, 0, NULL, 0, 1, 5, cs1, &count, &b) == 4, "4, own, no row at all");
+    expect(count == 3 && b == 77, "nor by these");
+}
+
 int main(void) {
     runtime_record();
     boards();
@@ -183,6 +275,8 @@ int main(void) {
     opening();
     reads(1, FLASH);
     reads(5, CS0);
+    own_reads(1, FLASH);
+    own_reads(5, CS0);
     if (!failed) printf("ok\n");
     return failed;
 }

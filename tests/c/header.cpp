@@ -35,7 +35,7 @@ int main() {
     bool called = opening.number == number && onerom_reason(opening.number)[0] == 'n' && onerom_item_number(&report, item) == 0;
     return zeros == 0 && called &&
                    all(onerom_runtime, onerom_string, onerom_mangle, onerom_demangle, onerom_open, onerom_get_rom_set_size, onerom_same_set,
-                       onerom_read_rom_set_data, onerom_read_rom_byte_raw, onerom_read_rom_byte_demangled)
+                       onerom_read_rom_set_data, onerom_read_rom_byte_raw, onerom_read_rom_byte_demangled, onerom_read_rom_byte_own)
                ? 0
                : 1;
 }

@@ -263,6 +263,66 @@ static void by_set_0(void) {
     expect(READ() == 72, "so is its ROM count");
 }
 
+/* A read by the set's own ROMs, wrong in every way at first: each step rights what the last number was for, and shows the next. */
+static void by_own_roms(void) {
+    struct onerom_report r = opening(changed(0, 0)).report;
+    uint32_t sets[16], roms[14], count = 0xFFFFFFFFu, set = 2, base = 0xFFFFFFFFu, cs0 = 0xFFFFFFFFu, address = 0x10000;
+    size_t set_words = 8, len = 1536;
+    uint8_t b = 0;
+    static const uint8_t low[ONEROM_LEVELS];
+    memset(sets, 0xFF, sizeof sets);
+    memcpy(sets + 8, set_rows, 32);
+    memset(roms, 0xFF, sizeof roms);
+    r.rom_sets.served = 2;
+    r.pins.number = 50;
+    r.pins.x1 = r.pins.data[0] = 200;
+    r.pins.x2 = 3;
+    sets[8 + ONEROM_SET_FIRST_ROM] = 1;
+    sets[8 + ONEROM_SET_ROM_COUNT] = 2;
+    sets[8 + ONEROM_SET_SIZE] = 0;
+#define OWN() onerom_read_rom_byte_own(image, len, base, cs0, r, sets, set_words, roms, 14, set, address, low, &count, &b)
+    REFUSED(ONEROM_REFUSED_WINDOW, 1, OWN());
+    base = FLASH;
+    REFUSED(ONEROM_REFUSED_WINDOW, 1, OWN());
+    cs0 = CS0;
+    REFUSED(ONEROM_REFUSED_NO_SUCH_SET, 80, OWN());
+    r.rom_sets.served = 0;
+    REFUSED(ONEROM_REFUSED_NO_SUCH_SET, 80, OWN());
+    set = 0;
+    expect(OWN() == 80, "nothing is served: 80, and no 71");
+    r.rom_sets.served = 2;
+    set = 1;
+    REFUSED(ONEROM_REFUSED_ROW, 4, OWN());
+    set_words = 16;
+    expect(OWN() == 4, "a type above 33, before 70");
+    roms[7 + ONEROM_ROM_TYPE] = ONEROM_TYPE_ROM2704;
+    REFUSED(ONEROM_REFUSED_NO_PINS, 70, OWN());
+    r.pins.number = 0;
+    REFUSED(ONEROM_REFUSED_X_PIN, 72, OWN());
+    r.pins.x1 = 14;
+    REFUSED(ONEROM_REFUSED_X_MAPPED, 73, OWN());
+    sets[8 + ONEROM_SET_ROM_COUNT] = 0;
+    REFUSED(ONEROM_REFUSED_NO_ROM, 74, OWN());
+    sets[8 + ONEROM_SET_ROM_COUNT] = 1;
+    REFUSED(ONEROM_REFUSED_UNSUPPORTED, 75, OWN());
+    roms[7 + ONEROM_ROM_TYPE] = ONEROM_TYPE_ROM28C16;
+    REFUSED(ONEROM_REFUSED_CONTROL_PIN, 76, OWN());
+    r.pins.ce = r.pins.oe = 15;
+    REFUSED(ONEROM_REFUSED_ADDRESS, 77, OWN());
+    address = 5;
+    REFUSED(ONEROM_REFUSED_ROM28C16, 78, OWN());
+    roms[7 + ONEROM_ROM_TYPE] = ONEROM_TYPE_ROM2364;
+    REFUSED(ONEROM_REFUSED_PAST_SET, 81, OWN());
+    sets[8 + ONEROM_SET_SIZE] = 6;
+    REFUSED(ONEROM_REFUSED_ENDED, 2, OWN());
+    len = 1552;
+    REFUSED(ONEROM_REFUSED_COUNT, 82, OWN());
+    count = 0;
+    REFUSED(ONEROM_REFUSED_DATA_PIN, 79, OWN());
+    r.pins.data[0] = 7;
+    expect(b == 0 && OWN() == 0 && b == 170 && count == 1, "set 0's rows, all of them wrong, are not looked at");
+}
+
 /* ---- what an opening shows */
 
 static void shown(void) {
@@ -351,6 +411,7 @@ int main(int argc, char **argv) {
     types();
     reads();
     by_set_0();
+    by_own_roms();
     shown();
     most_rows();
     if (!failed) printf("ok\n");

@@ -22,6 +22,11 @@ test_c_calls() {
     c_test calls
 }
 
+# A read by the set's own ROMs beside one by set 0's.
+test_c_own() {
+    c_test own
+}
+
 # Every field of every struct, by name and by offset.
 test_c_fields() {
     c_test fields
@@ -75,6 +80,12 @@ test_rust_fields() {
     c_test fields target/fields.img &&
         rustc --edition 2024 -D warnings -o target/rust-fields tests/rust/fields.rs -L target/staticlib -l static=onerom &&
         [ "$(target/rust-fields target/fields.img)" = ok ]
+}
+
+# The wrapper's read by the set's own ROMs, on the sample boards.
+test_rust_calls() {
+    needs rustc
+    rustc --edition 2024 -D warnings -O -o target/rust-calls tests/rust/calls.rs -L target/staticlib -l static=onerom && [ "$(target/rust-calls)" = ok ]
 }
 
 # The sample boards are what their generator makes.

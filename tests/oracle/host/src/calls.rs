@@ -26,6 +26,18 @@ pub enum Call {
     Same { a: u32, b: u32 },
     Data { set: u32, offset: u32, len: usize, count: u32 },
     Byte { set: u32, address: Address, demangled: bool, count: u32 },
+    Own { set: u32, address: u32, levels: [u8; 5], count: u32 },
+}
+
+impl Call {
+    /// The read by the set's own ROMs with the arguments of a logical read. It is not drawn by itself, so that what is drawn, and with it the
+    /// sample, stays as it is.
+    pub fn by_own_roms(self) -> Option<Call> {
+        match self {
+            Call::Byte { set, address: Address::Logical(address, levels), count, .. } => Some(Call::Own { set, address, levels, count }),
+            _ => None,
+        }
+    }
 }
 
 /// Number, value or bytes, and the served count afterwards.
@@ -182,6 +194,37 @@ impl Asker<'_> {
             },
         }
     }
+
+    /// The Rust has no such read. It is asked for the old one, of a board on which the named set has set 0's place, and with it its rows.
+    fn own(&mut self, set: u32, address: u32, levels: [u8; 5], count: u32) -> Asked<Reply> {
+        let refused = |number| Ok((number, vec![LENT_BYTE], count));
+        if set >= self.served() {
+            return refused(80);
+        }
+        let set = set as usize;
+        let whole = self.lent.sets;
+        let sets = whole.get(8 * set..).unwrap_or(&[]);
+        // 4 comes before 70 here
+        if lacks_rows(Rows { served: 1, sets, roms: self.lent.roms }) {
+            self.tally.rule(Rule::LentRows);
+            return refused(4);
+        }
+        self.lent.sets = sets;
+        self.info.rom_sets.swap(0, set);
+        let reply = self.byte(0, Address::Logical(address, levels), true, count);
+        self.info.rom_sets.swap(0, set);
+        self.lent.sets = whole;
+        reply
+    }
+}
+
+/// The number of the read of set 0 by its own ROMs, where the old read's is this: 80 and 4 come before 70, and nothing served is 80.
+fn own_number(old: u32, rows: Rows<'_>) -> u32 {
+    match old {
+        70 | 71 if rows.served == 0 => 80,
+        70 if lacks_rows(rows) => 4,
+        number => number,
+    }
 }
 
 /// Document 01's same set, by the rows: the Rust has no such call.
@@ -239,6 +282,21 @@ pub fn compare(lent: Lent<'_>, opened: &mut Opened, call: Call, tally: &mut Tall
             let expected = if beyond { (1, vec![LENT_BYTE], count) } else { rust.byte(set, address, demangled, count)? };
             same("a byte read", (number, vec![value], after), expected)?;
             tally.number(if demangled { "byte, demangled" } else { "byte, raw" }, number);
+        }
+        Call::Own { set, address, levels, count } => {
+            let (mut value, mut after) = (LENT_BYTE, count);
+            let number = ffi::byte_own(lent, set, address, levels, &mut after, &mut value);
+            let expected = if beyond { (1, vec![LENT_BYTE], count) } else { rust.own(set, address, levels, count)? };
+            tally.rule(Rule::OwnRoms);
+            same("a byte read by the set's own ROMs", (number, vec![value], after), expected)?;
+            if set == 0 {
+                let (mut old_value, mut old_after) = (LENT_BYTE, count);
+                let old = ffi::byte(lent, 0, Address::Logical(address, levels), true, &mut old_after, &mut old_value);
+                let rows = Rows { served: lent.report.served(), sets: lent.sets, roms: lent.roms };
+                tally.rule(Rule::OwnRomsOfSet0);
+                same("set 0 by its own ROMs, and by the old read", (number, value, after), (own_number(old, rows), old_value, old_after))?;
+            }
+            tally.number("byte, own ROMs", number);
         }
     }
     if beyond {

@@ -91,6 +91,22 @@ unsafe extern "C" {
         count: *mut u32,
         value: *mut u8,
     ) -> u32;
+    fn onerom_read_rom_byte_own(
+        image: *const u8,
+        image_len: usize,
+        flash_base: u32,
+        cs0_base: u32,
+        report: CReport,
+        set_rows: *const u32,
+        set_words: usize,
+        rom_rows: *const u32,
+        rom_words: usize,
+        set: u32,
+        address: u32,
+        levels: *const u8,
+        count: *mut u32,
+        value: *mut u8,
+    ) -> u32;
 }
 
 // ---- the structs of the header
@@ -347,6 +363,28 @@ pub fn byte(lent: Lent<'_>, set: u32, address: Address, demangled: bool, count: 
             lent.roms.len(),
             set,
             logical,
+            address,
+            levels.as_ptr(),
+            count,
+            value,
+        )
+    }
+}
+
+/// A byte at a logical address, by the named set's own ROMs.
+pub fn byte_own(lent: Lent<'_>, set: u32, address: u32, levels: [u8; 5], count: &mut u32, value: &mut u8) -> u32 {
+    unsafe {
+        onerom_read_rom_byte_own(
+            lent.image.as_ptr(),
+            lent.image.len(),
+            lent.flash_base,
+            CS0_BASE,
+            *lent.report,
+            lent.sets.as_ptr(),
+            lent.sets.len(),
+            lent.roms.as_ptr(),
+            lent.roms.len(),
+            set,
             address,
             levels.as_ptr(),
             count,

@@ -167,6 +167,12 @@ fn plainer_calls(call: Call) -> Vec<Call> {
             }
             out
         }
+        Call::Own { set, address, levels, count } => vec![
+            Call::Own { set: 0, address, levels, count },
+            Call::Own { set, address: 0, levels, count },
+            Call::Own { set, address, levels: [0; 5], count },
+            Call::Own { set, address, levels, count: 0 },
+        ],
     }
 }
 

@@ -192,6 +192,8 @@ fn call_line(lending: Lending, lent: Lent<'_>) {
             };
             (kind, [set, at, levels, 1, count], format!("{number} {} {after}", bytes_read(number, &[value])))
         }
+        // never drawn: the sample holds the Rust's answers, and the Rust has no such read
+        Call::Own { .. } => return,
     };
     println!("c {kind} {}|{answer}", numbers.map(|n| format!("{n:08x}")).join(" "));
 }

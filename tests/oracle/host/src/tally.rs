@@ -38,6 +38,8 @@ rules! {
     SetAboveByte: "80: the Rust's set number is a byte",
     LentCount: "a lent ROM count above 255: the Rust, whose count is a byte, is asked with 255",
     SameSet: "same set, added: held to the rows by the host",
+    OwnRoms: "a byte by the set's own ROMs, added: the Rust is asked with that set in set 0's place",
+    OwnRomsOfSet0: "a byte of set 0 by its own ROMs, added: held to the old read too, by the host",
 }
 
 #[derive(Default)]

@@ -228,38 +228,48 @@ unsafe extern "C" {
         rom_rows: *const u32,
         rom_words: usize,
         logical: u8,
-        demangled: u8,
+        read: u8,
         to: *mut u8,
         n: u32,
     ) -> u32;
 }
 
-/// The bytes of a 64 KiB set one by one, each address once: here by a loop in C.
-fn byte_reads(bench: &Bench, what: &str, logical: bool, demangled: bool) {
+/// Which byte read, as bytes.c has them; the Rust has no read by the set's own ROMs.
+#[derive(Clone, Copy, PartialEq, Eq)]
+enum Read {
+    Raw = 0,
+    Demangled = 1,
+    Own = 2,
+}
+
+/// The bytes of set 0 one by one, each address once, by the loop in C.
+fn here_reads(board: &Board, report: &ffi::CReport, sets: &[u32], roms: &[u32], logical: bool, read: Read, to: &mut [u8]) {
+    let n = to.len() as u32;
+    let count = unsafe {
+        bytes_read(
+            board.image.as_ptr(),
+            board.image.len(),
+            board.flash_base,
+            CS0_BASE,
+            report,
+            sets.as_ptr(),
+            sets.len(),
+            roms.as_ptr(),
+            roms.len(),
+            logical as u8,
+            read as u8,
+            to.as_mut_ptr(),
+            n,
+        )
+    };
+    assert!(count == n, "each read counts");
+}
+
+/// A 64 KiB set. On its set 0 the read by the set's own ROMs gives what the old logical read gives, so the Rust's is timed beside it.
+fn byte_reads(bench: &Bench, what: &str, logical: bool, read: Read) {
     let mut o = open(measured(1, 1, ROM_23512, SET));
     let lines = SdrrCsSet::new(false, None, None, None, None);
-    let here = |to: &mut [u8]| {
-        let (image, sets, roms) = (&o.board.image, &o.sets, &o.roms);
-        let n = to.len() as u32;
-        let count = unsafe {
-            bytes_read(
-                image.as_ptr(),
-                image.len(),
-                o.board.flash_base,
-                CS0_BASE,
-                &o.ours.report,
-                sets.as_ptr(),
-                sets.len(),
-                roms.as_ptr(),
-                roms.len(),
-                logical as u8,
-                demangled as u8,
-                to.as_mut_ptr(),
-                n,
-            )
-        };
-        assert!(count == n, "each read counts");
-    };
+    let here = |to: &mut [u8]| here_reads(&o.board, &o.ours.report, &o.sets, &o.roms, logical, read, to);
     let mut window = Window { image: &o.board.image, base: o.board.flash_base };
     let mut parser = Parser::with_base_flash_address(&mut window, o.board.flash_base, 0);
     let info = &mut o.info;
@@ -267,7 +277,7 @@ fn byte_reads(bench: &Bench, what: &str, logical: bool, demangled: bool) {
         for (address, byte) in to.iter_mut().enumerate() {
             let address = address as u32;
             let at = if logical { SdrrAddress::from_logical(address, &lines) } else { SdrrAddress::Raw(address) };
-            *byte = if demangled { rust_reads_demangled(info, &mut parser, at) } else { rust_reads_raw(info, &mut parser, at) };
+            *byte = if read == Read::Raw { rust_reads_raw(info, &mut parser, at) } else { rust_reads_demangled(info, &mut parser, at) };
         }
     };
     let (mut ours, mut theirs) = (vec![0; SET], vec![1; SET]);
@@ -276,6 +286,18 @@ fn byte_reads(bench: &Bench, what: &str, logical: bool, demangled: bool) {
     assert!(ours == theirs, "both read alike");
     let least = bench.turns(SET, || here(black_box(&mut ours)), || rust(black_box(&mut theirs)));
     show(what, &least);
+}
+
+/// The read by the set's own ROMs in turns with the old one, both here: the third column is the old one's, not the Rust's.
+fn own_beside_old(bench: &Bench) {
+    let o = open(measured(1, 1, ROM_23512, SET));
+    let here = |read: Read, to: &mut [u8]| here_reads(&o.board, &o.ours.report, &o.sets, &o.roms, true, read, to);
+    let (mut own, mut old) = (vec![0; SET], vec![1; SET]);
+    here(Read::Own, &mut own);
+    here(Read::Demangled, &mut old);
+    assert!(own == old, "both read alike");
+    let least = bench.turns(SET, || here(Read::Own, black_box(&mut own)), || here(Read::Demangled, black_box(&mut old)));
+    show("by the set's own ROMs, and by set 0's (here)", &least);
 }
 
 fn data(bench: &Bench) {
@@ -329,9 +351,11 @@ fn main() {
     openings(&bench);
     mangles(&bench);
     demangles(&bench);
-    byte_reads(&bench, "raw address, raw byte", false, false);
-    byte_reads(&bench, "raw address, demangled byte", false, true);
-    byte_reads(&bench, "logical address, raw byte", true, false);
-    byte_reads(&bench, "logical address, demangled byte", true, true);
+    byte_reads(&bench, "raw address, raw byte", false, Read::Raw);
+    byte_reads(&bench, "raw address, demangled byte", false, Read::Demangled);
+    byte_reads(&bench, "logical address, raw byte", true, Read::Raw);
+    byte_reads(&bench, "logical address, demangled byte", true, Read::Demangled);
+    byte_reads(&bench, "logical address, by the set's own ROMs", true, Read::Own);
+    own_beside_old(&bench);
     data(&bench);
 }

@@ -3,7 +3,7 @@
 use std::process::ExitCode;
 use std::time::Instant;
 
-use host::boards::{self, Buffers};
+use host::boards::{self, Buffers, Lending};
 use host::image::Board;
 use host::input::Input;
 use host::mangling::{self, Subject};
@@ -109,10 +109,13 @@ impl Run {
             let Some(mut both) = both else { return Ok(()) };
             let calls = if both.report.served() == 0 { 2 } else { 5 };
             for _ in 0..rng.below(calls) {
-                let lending = boards::random_call(rng, &both, image);
-                tally.kind("calls on opened boards");
-                boards::compare_call(image, flash_base, &mut both, lending, tally)
-                    .inspect_err(|_| *last = Some(Input::Call { image: image.clone(), flash_base, lending }))?;
+                let drawn = boards::random_call(rng, &both, image);
+                let own = drawn.call.by_own_roms().map(|call| Lending { call, ..drawn });
+                for lending in std::iter::once(drawn).chain(own) {
+                    tally.kind("calls on opened boards");
+                    boards::compare_call(image, flash_base, &mut both, lending, tally)
+                        .inspect_err(|_| *last = Some(Input::Call { image: image.clone(), flash_base, lending }))?;
+                }
             }
             Ok(())
         };

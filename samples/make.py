@@ -7,6 +7,7 @@
 stm32.img     an STM32 board, firmware 0.4.2, one set
 rp2350.img    an RP2350 board, firmware 0.6.1, five sets: 0 and 3 are the same with equal names, 1 and 4 under different names
 multi.img     an RP2350 board whose set 0 has three ROMs, chosen by CS1, X1 and X2
+mixed.img     an STM32 board, firmware 0.5.2, for ROMs of 28 pins: set 0 a 2364, set 1 a 27256
 damaged.img   a copy of rp2350.img with a fault in each of several places
 runtime.bin   a runtime record, for the program `runtime`
 
@@ -22,8 +23,8 @@ NONE = 0xFFFFFFFF  # a pointer that leads nowhere
 NO_PIN = 255
 
 # ROM types by their numbers, and how many bytes a ROM of the type has.
-ROM_2316, ROM_2332 = 0, 1
-BYTES = {ROM_2316: 2048, ROM_2332: 4096}
+ROM_2316, ROM_2332, ROM_2364, ROM_27256 = 0, 1, 2, 12
+BYTES = {ROM_2316: 2048, ROM_2332: 4096, ROM_2364: 8192, ROM_27256: 32768}
 # Chip-select states.
 LOW, HIGH, UNUSED = 0, 1, 2
 
@@ -44,10 +45,11 @@ class RomSet:
 
 
 class Pins:
-    """Which pin each line is on. Pins of the address lines and controls count from `first`."""
+    """Which pin each line is on. Pins of the address lines and controls count from `first`; `rom_pins` is how many the ROM has."""
 
-    def __init__(self, ports, data, first, addr, cs, x=(NO_PIN, NO_PIN), status=NO_PIN):
+    def __init__(self, ports, data, first, addr, cs, x=(NO_PIN, NO_PIN), ce=NO_PIN, oe=NO_PIN, status=NO_PIN, rom_pins=24):
         self.ports, self.data, self.first, self.addr, self.cs, self.x, self.status = ports, data, first, addr, cs, x, status
+        self.ce, self.oe, self.rom_pins = ce, oe, rom_pins
 
     def on_board(self, pin):
         return NO_PIN if pin == NO_PIN else self.first + pin
@@ -56,11 +58,11 @@ class Pins:
         """88 bytes."""
         p = bytearray([NO_PIN] * 88)
         p[0:5] = bytes(self.ports)
-        p[5] = 24  # the ROM's pins
+        p[5] = self.rom_pins
         p[8:16] = bytes(self.data)
         p[16:32] = bytes(self.on_board(pin) for pin in self.addr + [NO_PIN] * (16 - len(self.addr)))
         p[36:39] = bytes(self.on_board(pin) for pin in self.cs)
-        p[42:44] = bytes(self.on_board(pin) for pin in self.x)
+        p[42:46] = bytes(self.on_board(pin) for pin in (*self.x, self.ce, self.oe))
         p[60] = self.status
         p[63] = 0  # not extended
         return bytes(p)
@@ -216,7 +218,7 @@ RP2350 = Board(
     sets=[
         RomSet([Rom("genoa.bin", ROM_2316)], 2048, 1),
         RomSet([Rom("mainsail.bin", ROM_2316)], 2048, 0),
-        RomSet([Rom("spinnaker.bin", ROM_2332, (LOW, HIGH, UNUSED))], 4096, 1),
+        RomSet([Rom("spinnaker.bin", ROM_2332, (LOW, HIGH, UNUSED))], 4096, 1),  # CS2 has A11's pin, so a read sees one half twice
         RomSet([Rom("genoa.bin", ROM_2316)], 2048, 1),
         RomSet([Rom("mizzen.bin", ROM_2316)], 2048, 0),
     ],
@@ -239,6 +241,26 @@ MULTI = Board(
     sets=[
         RomSet([Rom(n, ROM_2316, (LOW, UNUSED, UNUSED)) for n in ("foresail.bin", "topsail.bin", "staysail.bin")], 16384, 2, LOW),
         RomSet([Rom("jib.bin", ROM_2316)], 2048, 1),
+    ],
+)
+
+# One pin is CS1 for a 2364 and A13 for a 27256: address 5 with CS1 high is at offset 8197 of set 0, and at offset 5 of set 1. Set 0 has room for both
+# levels of CS1. CE and OE are at a pin of their own, which no address raises.
+MIXED = Board(
+    base=0x08000000,
+    version=(0, 5, 2, 7),
+    line=1,  # STM32F405
+    storage=6,  # G
+    mhz=168,
+    flags=(0, 1, 0, 0, 1, 0, 0),
+    counting=0,
+    date="2025-06-21 09:14",
+    revision="ice-28-a",
+    extra=(0x20000400, 0, 0, NO_PIN, 0, 0x20000000),
+    pins=Pins((1, 3, 3, 2, 2), [4, 6, 0, 2, 7, 1, 3, 5], 0, list(range(15)), (13, NO_PIN, NO_PIN), ce=15, oe=15, status=9, rom_pins=28),
+    sets=[
+        RomSet([Rom("lugsail.bin", ROM_2364, (LOW, UNUSED, UNUSED))], 16384, 1),
+        RomSet([Rom("gennaker.bin", ROM_27256, (UNUSED, UNUSED, UNUSED))], 32768, 1),
     ],
 )
 
@@ -281,7 +303,7 @@ def crowded(sets, roms):
 
 
 def boards():
-    return {"stm32": STM32.image(), "rp2350": RP2350.image(), "multi": MULTI.image(), "damaged": damaged()}
+    return {"stm32": STM32.image(), "rp2350": RP2350.image(), "multi": MULTI.image(), "mixed": MIXED.image(), "damaged": damaged()}
 
 
 def runtime_record():

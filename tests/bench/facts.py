@@ -39,10 +39,10 @@ def set_facts(board, image, i, s, same_as):
 def pin_facts(pins):
     none = [make.NO_PIN]
     addr = [pins.on_board(p) for p in pins.addr]
-    facts = [("rom_pins", 24)] + list(zip(["port.data", "port.addr", "port.cs", "port.sel", "port.status"], [PORT[p] for p in pins.ports]))
+    facts = [("rom_pins", pins.rom_pins)] + list(zip(["port.data", "port.addr", "port.cs", "port.sel", "port.status"], [PORT[p] for p in pins.ports]))
     facts += [("data", pins.data), ("addr", addr + none * (16 - len(addr)))]
     facts += [("cs%d" % (n + 1), pins.on_board(p)) for n, p in enumerate(pins.cs)]
-    facts += [("x1", pins.on_board(pins.x[0])), ("x2", pins.on_board(pins.x[1])), ("ce", 255), ("oe", 255), ("status", pins.status)]
+    facts += [(name, pins.on_board(p)) for name, p in zip(("x1", "x2", "ce", "oe"), (*pins.x, pins.ce, pins.oe))] + [("status", pins.status)]
     facts += [("sel", none * 7), ("x_pull", 255), ("sel_pull", 255), ("swclk", 255), ("swdio", 255), ("extended", 0)]
     facts += [("data2", [0] * 8), ("addr2", [0] * 16)]
     return [("pins." + name, " ".join(map(str, v)) if isinstance(v, list) else str(v)) for name, v in facts]
@@ -69,7 +69,7 @@ def board_facts(board, same_as):
 
 
 def facts(at):
-    for name, board, same_as in (("stm32", make.STM32, {}), ("rp2350", make.RP2350, make.SAME), ("multi", make.MULTI, {})):
+    for name, board, same_as in (("stm32", make.STM32, {}), ("rp2350", make.RP2350, make.SAME), ("multi", make.MULTI, {}), ("mixed", make.MIXED, {})):
         same(facts_of(at, "samples/%s.img" % name), board_facts(board, same_as), name)
     damaged = dict(facts_of(at, "samples/damaged.img"))
     for key, value in dict(board_facts(make.RP2350, make.SAME)).items():

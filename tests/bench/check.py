@@ -8,7 +8,7 @@ numbers in docs/BENCH.md and from stored outputs, never from the program.
     python3 tests/bench/check.py rare       sets without ROMs or bytes, 255 sets, early firmware, the largest read, damaged boards
     python3 tests/bench/check.py words      options and commands in odd orders, dumps on standard input
     python3 tests/bench/check.py wrapper    the script ./bench: when it has the program proved, what it runs and passes on
-    python3 tests/bench/check.py reads      read, raw and byte give the ROMs' text
+    python3 tests/bench/check.py reads      read, raw and byte give the ROMs' text, by the set's own ROMs and by set 0's
     python3 tests/bench/check.py numbers    each number that can occur, in the words of docs/BENCH.md
     python3 tests/bench/check.py settings   boards at other bases and offsets
     python3 tests/bench/check.py statuses   the exit status in every form
@@ -25,7 +25,7 @@ numbers in docs/BENCH.md and from stored outputs, never from the program.
     python3 tests/bench/check.py hints      files that are no dump, or too long
     python3 tests/bench/check.py alike      what names and bytes of the same sets show
     python3 tests/bench/check.py columns    80 columns for a person
-    python3 tests/bench/check.py readme     README.md shows real output
+    python3 tests/bench/check.py readme     README.md and docs/BENCH.md show real output
     python3 tests/bench/check.py store      writes tests/data/bench anew, to be read before it is kept
 """
 import sys

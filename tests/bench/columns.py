@@ -53,14 +53,21 @@ def fits(at, words):
 def columns(at):
     for words in ([], ["help"], ["--version"], ["--bogus"], ["read"], ["raw", "0"], [SAMPLE, "b"], [SAMPLE, "read", "x"], [SAMPLE, "read", "0", "x"]):
         fits(at, words)
-    for file in [SAMPLE, "samples/stm32.img", "samples/multi.img", "samples/damaged.img", "none", "made"] + ["made/" + name for name in made()]:
+    for file in [SAMPLE, "samples/stm32.img", "samples/multi.img", "samples/mixed.img", "samples/damaged.img", "none", "made"] + ["made/" + name for name in made()]:
         for words in ([], ["raw", "9"], ["byte", "0", "0"], ["byte", "0", "4294967295"], ["byte", "4294967295", "0"]):
             fits(at, [file, *words])
+            if "byte" in words:
+                fits(at, [file, *words, "--by-set-0"])
     images = [image for _, image in refused_openings()] + [image for _, _, image in refused_items()] + wide_numbers() + several_kinds()
     for image in images:
         fits(at, [put(at, "w", image)])
     for _, image, words in refused_reads():
         fits(at, [put(at, "w", image), *words])
+    many = put(at, "w", several_kinds()[1])
+    for words in (["byte", "254", "0"], ["byte", "254", "4294967295"]):
+        fits(at, [many, *words])
+        fits(at, [many, *words, "--by-set-0"])
+    fits(at, ["samples/mixed.img", "byte", "1", "5", "cs1=1", "--by-set-0"])
     # Every type, beside every state.
     for n in range(34):
         fits(at, [put(at, "w", changed((("rom", 0, 0), 0, bytes([n, 1, 1, 1]))))])

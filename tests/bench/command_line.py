@@ -52,9 +52,22 @@ def version_of_header():
     return tuple(int(text.split("#define ONEROM_VERSION_%s " % part)[1].split("\n")[0]) for part in ("MAJOR", "MINOR"))
 
 
+def by_set_0(at):
+    """--by-set-0 stands anywhere. raw, the report, help and version have nothing that goes by a set, and are the same with it."""
+    old, own = (run(at, FILE, "byte", "2", "0x7ff", *more) for more in (["--by-set-0"], []))
+    expect(b" by set 0 " in old[0] and b" by set 0 " not in own[0] and old[1] == own[1] == b"", "byte says by which set it is read")
+    words = [FILE, "byte", "2", "0x7ff"]
+    for k in range(len(words) + 1):
+        same(run(at, *words[:k], "--by-set-0", *words[k:]), old, "--by-set-0 in place %d" % k)
+    same(run(at, *words, "low", "--by-set-0", "--by-set-0"), old, "--by-set-0 twice")
+    for words in ([], [FILE], [FILE, "raw", "2"], ["help"], ["--version"], [FILE, "raw", "9"]):
+        for form in (words, [*words, "--machine"]):
+            same(run(at, "--by-set-0", *form), run(at, *form), "--by-set-0 with %r" % (form,))
+
+
 def end_of_options(at, said):
     """Behind -- there is no option, and a file can have any name."""
-    for name in ("--machine", "--help", "-h", "--", "--info-offset=1"):
+    for name in ("--machine", "--help", "-h", "--", "--info-offset=1", "--by-set-0"):
         os.link(os.path.join(at, "made", "three.img"), os.path.join(at, name))
         same(run(at, "--", name, "raw", "0"), run(at, "made/three.img", "raw", "0"), "a file called " + name)
         same(run(at, "--machine", "--", name), run(at, "--machine", "made/three.img"), "a file called %s, for a script" % name)
@@ -115,6 +128,7 @@ def words(at):
     same(run(at, "made/read", "raw", "0"), run(at, "made/three.img", "raw", "0"), "a file called read")
     help_and_version(at)
     joined(at)
+    by_set_0(at)
     end_of_options(at, said)
     standard_input(at, table)
     sample(at, table)

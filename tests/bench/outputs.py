@@ -25,6 +25,8 @@ ANSWERS = [
     [SAMPLE, "byte", "0", "0", "--machine"],
     ["help"],
     ["--version"],
+    [SAMPLE, "read", "2", "--by-set-0"],
+    [SAMPLE, "byte", "2", "0", "--by-set-0"],
 ]
 PIPE_BYTES = 4096
 
@@ -54,6 +56,11 @@ def full(at):
         with open("/dev/full", "wb") as device:
             same(call(at, *words, stdout=device, stderr=device)[0], status, "bench %r, nothing can be said" % (words,))
         same(call(at, *words, stderr=None, preexec_fn=without(2))[0], status, "bench %r with standard error closed" % (words,))
+    # What is said beside bytes belongs to the answer.
+    old = make.RP2350.sets[2].roms[0].text()[:2048]
+    for words in (["read", "2", "--by-set-0"], ["read", "2", "--by-set-0", "--machine"]):
+        with open("/dev/full", "wb") as device:
+            same(call(at, SAMPLE, *words, stderr=device)[:2], (1, old), "bench %r, nothing can be said beside the bytes" % (words,))
     # Closed descriptors that are not needed do no harm.
     whole = call(at, SAMPLE, "raw", "0")[1]
     same(call(at, SAMPLE, "raw", "0", stderr=None, preexec_fn=without(2))[:2], (0, whole), "raw with standard error closed")

@@ -14,9 +14,9 @@ def rare(at):
     got = dict(facts_of(at, no_roms))
     same((got["set.2.roms"], got["set.2.same_as"]), ("0", "0"), "sets without ROMs")
     table = words_of_numbers()
-    for words in (["read", "2"], ["byte", "2", "0"], ["read", "0"]):
+    for words in (["read", "2"], ["byte", "2", "0"], ["read", "0"], ["read", "1", "--by-set-0"], ["byte", "3", "0", "--by-set-0"]):
         refused_whole(at, 74, table[74], no_roms, *words)
-    refused_whole(at, 113, table[113], no_roms, "read", "1")
+    same(bytes_of(at, no_roms, "read", "1"), make.Rom("jib.bin", make.ROM_2316).text(), "a set with a ROM beside sets without")
     empty = put(at, "no_bytes.img", changed((("set", 4), 4, bytes(4))))
     same((dict(facts_of(at, empty))["set.4.data.number"], bytes_of(at, empty, "raw", "4")), ("0", b""), "a set of no bytes")
     same(dict(facts_of(at, put(at, "many.img", make.crowded(255, 16).bytes)))["set.254.same_as"], "0", "255 sets")
@@ -48,12 +48,12 @@ def damaged_boards(at):
     seed = 1
     whole = [bytes(image.bytes) for image in make.boards().values()]
     for k in range(120):
-        image = bytearray(whole[k % 4])
+        image = bytearray(whole[k % len(whole)])
         for _ in range(1 + k % 7):
             seed = (seed * 6364136223846793005 + 1442695040888963407) % 2**64
             image[512 + (seed >> 33) % 1100] = seed >> 56
         file = put(at, "hurt.img", bytes(image[: len(image) if k % 3 else 600 + 97 * k]))
-        for words in ([], ["read", "0"], ["raw", "1"], ["byte", "0", "3"]):
+        for words in ([], ["read", "0"], ["raw", "1"], ["byte", "1", "3"], ["byte", "1", "3", "--by-set-0"]):
             out, err = run(at, file, *words)
             expect((out == b"") == (err != b"") or (words[:1] == ["raw"] and err == b""), "damaged board %d, %r" % (k, words))
             expect(err.count(b"\n") <= 2, "damaged board %d, %r: two lines at most" % (k, words))

@@ -3,8 +3,8 @@ import struct
 import subprocess
 
 import make
-from made import changed, header, metadata_with, no_rom, pins_with, several
-from tools import BYTES, PROGRAM, facts_of, put, refused_item, refused_whole, same, words_of_numbers
+from made import board_of, changed, header, metadata_with, no_rom, pins_with, several
+from tools import BYTES, PROGRAM, facts_of, put, refused_item, refused_whole, run, same, words_of_numbers
 
 
 def refused_openings():
@@ -51,8 +51,24 @@ def refused_reads():
         (79, pins_with((8, [8])), ["read", "0"]),
         (80, changed(), ["raw", "5"]),
         (81, changed(), ["read", "0", "cs1=1"]),
-        (113, changed(), ["read", "2"]),
+        # What set 0 has counts for other sets only where it is asked for.
+        (72, several((42, [40])), ["read", "1", "--by-set-0"]),
+        (73, several((43, [18])), ["byte", "1", "0", "--by-set-0"]),
+        (74, no_rom(), ["byte", "1", "0", "--by-set-0"]),
+        (75, changed((("rom", 0, 0), 0, b"\6")), ["read", "1", "--by-set-0"]),
+        (77, changed(), ["byte", "2", "0x800", "--by-set-0"]),
+        (78, changed((("rom", 0, 0), 0, b"\x1a"), ("pins", 44, bytes([21, 20]))), ["byte", "1", "0", "--by-set-0"]),
+        # The set is looked for first: a board without sets, and one without pins.
+        (80, bytes(board_of([]).image().bytes), ["read", "0"]),
+        (80, bytes(board_of([]).image().bytes), ["byte", "0", "0", "--by-set-0"]),
+        (80, pins_with((0, [6])), ["read", "5"]),
+        (80, pins_with((0, [6])), ["byte", "5", "0", "--by-set-0"]),
     ]
+
+
+def accepted_reads():
+    """Boards on which set 0 can't be read, and set 1 can."""
+    return [several((42, [40])), several((43, [18])), no_rom(), changed((("rom", 0, 0), 0, b"\6")), changed((("rom", 0, 0), 0, b"\x1a"), ("pins", 44, bytes([21, 20])))]
 
 
 def numbers(at):
@@ -63,6 +79,12 @@ def numbers(at):
         refused_item(at, number, table[number], item, image)
     for number, image, words in refused_reads():
         refused_whole(at, number, table[number], put(at, "read.img", image), *words)
+    for image in accepted_reads():
+        file = put(at, "read.img", image)
+        same(dict(facts_of(at, file, "byte", "1", "0"))["by_set"], "1", "set 1 beside a set 0 that can't be read")
+        # A refusal says where a read goes by set 0.
+        err = run(at, file, "byte", "1", "0", "--by-set-0")[1].decode()
+        same(err.split(": ref")[0], "bench: made/read.img, set 1, address 0x00000000, by set 0", "a refusal of a read by set 0")
     refused_whole(at, 1, table[1], "--flash-base", "0xffffffff")
     refused_whole(at, 112, table[112], "made/large.img")
     refused_whole(at, 109, table[109], "made")

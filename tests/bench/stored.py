@@ -1,7 +1,10 @@
-"""Outputs on samples and on bad input, as in tests/data/bench; and what README.md shows of them."""
+"""Outputs on samples and on bad input, as in tests/data/bench; and what README.md and docs/BENCH.md show of them."""
 import os
 
 from tools import STORED, TOP, expect, run, same
+
+# Outputs that docs/BENCH.md shows, each with its command before it.
+IN_BENCH = ("mixed_byte.txt", "mixed_byte_by_set_0.txt")
 
 
 def shown(at, words):
@@ -24,11 +27,19 @@ def stored(at, is_written=False):
             same(got, wanted, name)
 
 
+def text_of(*path):
+    with open(os.path.join(TOP, *path), encoding="utf-8") as f:
+        return f.read()
+
+
+def is_shown(page, wanted):
+    block = "".join("    " + line + "\n" if line else "\n" for line in wanted.split("\n")[:-1])
+    expect(block in text_of(page), "%s does not show\n%s" % (page, block))
+
+
 def readme(at):
-    text = open(os.path.join(TOP, "README.md"), encoding="utf-8").read()
-    sample = open(os.path.join(STORED, "sample.txt"), encoding="utf-8").read().split("\n", 1)[1]
-    example = open(os.path.join(TOP, "tests", "data", "example.txt"), encoding="utf-8").read()
-    record = open(os.path.join(TOP, "crates", "runtime", "stdout"), encoding="utf-8").read()
-    for wanted in (sample, example, record):
-        block = "".join("    " + line + "\n" if line else "\n" for line in wanted.split("\n")[:-1])
-        expect(block in text, "README.md does not show\n" + block)
+    is_shown("README.md", text_of(STORED, "sample.txt").split("\n", 1)[1])
+    is_shown("README.md", text_of("tests", "data", "example.txt"))
+    is_shown("README.md", text_of("crates", "runtime", "stdout"))
+    for name in IN_BENCH:
+        is_shown("docs/BENCH.md", text_of(STORED, name))

@@ -7,6 +7,7 @@ import sys
 
 TOP = os.path.dirname(os.path.dirname(os.path.dirname(os.path.abspath(__file__))))
 sys.path.insert(0, os.path.join(TOP, "samples"))
+sys.path.append(os.path.join(TOP, "tests", "model"))  # last: the samples' make.py is meant
 sys.dont_write_bytecode = True
 
 STORED = os.path.join(TOP, "tests", "data", "bench")
@@ -51,11 +52,21 @@ def facts_of(at, *words):
     return [tuple(line.split(" ", 1)) for line in lines[1:-2]]
 
 
+def beside(words, count):
+    """What stands on standard error beside so many bytes: for a person, and for a script."""
+    if "raw" in words:
+        return b"", b"ok\nbytes %d\n" % count
+    i = int(words[words.index("read") + 1], 0)
+    if "--by-set-0" in words:
+        return b"bench: set %d is read by set 0's ROM count and first type\n" % i, b"ok\nby_set 0\nbytes %d\n" % count
+    return b"", b"ok\nby_set %d\nbytes %d\n" % (i, count)
+
+
 def bytes_of(at, *words):
     out, err = run(at, *words)
-    same(err, b"", "standard error of bench " + " ".join(words))
-    plain = run(at, *words, "--machine")
-    same(plain, (out, b"ok\nbytes %d\n" % len(out)), "bench --machine " + " ".join(words))
+    person, script = beside(words, len(out))
+    same(err, person, "standard error of bench " + " ".join(words))
+    same(run(at, *words, "--machine"), (out, script), "bench --machine " + " ".join(words))
     return out
 
 

@@ -34,20 +34,23 @@ const MACHINE: u8 = 4;
 
 const STATUS: u8 = 5;
 
-const VERSION: u8 = 6;
+const BY_SET_0: u8 = 6;
 
-const END: u8 = 7;
+const VERSION: u8 = 7;
+
+const END: u8 = 8;
 
 const NO_OPTION: u8 = 255;
 
 // What is asked for; or the number of a refusal, and the argument that it is about (0: none).
-// status: the exit status is to be written. waiting: the option whose number or file comes next (255: none). is_ended: -- was seen.
+// status: the exit status is to be written. by_set_0: reads go by set 0's ROMs. waiting: the option whose number or file comes next (255: none). is_ended: -- was seen.
 // file, sample, command_at: the arguments that name them (0: no FILE, so the sample; the sample that stands here; none).
 pub struct Request {
     pub number: u8,
     pub about: usize,
     pub machine: bool,
     pub status: bool,
+    pub by_set_0: bool,
     pub version: bool,
     pub help: bool,
     pub waiting: u8,
@@ -71,6 +74,7 @@ fn nothing() -> Request {
         about: 0,
         machine: false,
         status: false,
+        by_set_0: false,
         version: false,
         help: false,
         waiting: NO_OPTION,
@@ -188,6 +192,8 @@ fn set_flag(request: Request, option: u8) -> Request {
         r.machine = true;
     } else if option == STATUS {
         r.status = true;
+    } else if option == BY_SET_0 {
+        r.by_set_0 = true;
     } else if option == VERSION {
         r.version = true;
     } else if option == END {
@@ -261,7 +267,7 @@ fn take(request: Request, at: usize) -> Request {
     }
     let option = words::place(
         &space[..n],
-        b"--flash-base|--cs0-base|--info-offset|--sample|--machine|--status|--version|--|--help|-h",
+        b"--flash-base|--cs0-base|--info-offset|--sample|--machine|--status|--by-set-0|--version|--|--help|-h",
     );
     if base::both(option < NO_OPTION, !request.is_ended) {
         return take_option(request, at, option);

@@ -5,6 +5,7 @@
 //   %o on or off          %f the same as 1 or 0     %w what a number means    %m what a name's number means
 //   %a a chip-select state in one word              %e, %h what a comparison shows, for a person and for a script
 //   %_ nothing: the number is passed over           %0, %1 the first number and the second, decimal, once more
+//   %g ", by set 0" for 1, nothing for 0
 mod names;
 mod table;
 

@@ -14,11 +14,11 @@ fn lettered(out: &mut Out, table: &[u8], letter: u8, n: u32) {
 }
 
 // The letters of a form that stand for a name: t a ROM type, l a line, k a storage code, K its KiB, p a port, c and a a chip-select state, o and f a
-// flag, e and h a comparison, s a serving, m a name that is not there.
+// flag, e and h a comparison, s a serving, m a name that is not there, g whether a read goes by set 0's ROMs.
 pub(crate) fn named(out: &mut Out, letter: u8, n: u32) {
     lettered(
         out,
-        b"tlkKpcaofehsm\n\
+        b"tlkKpcaofehsmg\n\
         2316|2332|2364|23128|23256|23512|2704|2708|2716|2732|2764|27128|27256|27512|231024|\
         27C010|27C020|27C040|27C080|27C400|6116 (RAM)|27C301|System Plugin|User Plugin|PIO Plugin|\
         SST39SF040|28C16|28C64|28C256|28C512|23QL512|23QL384|23C1001|27C200\n\
@@ -33,13 +33,15 @@ pub(crate) fn named(out: &mut Out, letter: u8, n: u32) {
         equal|differ|not all in the dump\n\
         equal|differ|not_held\n\
         A (CS checked twice)|B (address on CS)|C (address on any CS)\n\
-        none is stored",
+        none is stored\n\
+        |, by set 0",
         letter,
         n,
     );
 }
 
 // What a number means, in plain words: document 01's up to 82, the program's own from 100 on. A row has the numbers of one ten; the first has 0 to 9.
+// An empty entry is a number that is never said.
 pub(crate) fn words(out: &mut Out, number: u32) {
     cell(
         out,
@@ -55,7 +57,7 @@ pub(crate) fn words(out: &mut Out, number: u32) {
         a port of the pins is unknown\n\n\
         the pins are refused, and this read needs them|the board serves no set|\
         X1 or X2 is not on one of the sixteen pins that are read|X1 or X2 is at a pin that an address line has|\
-        set 0 has no ROM|set 0's first ROM is of a type that logical reads do not cover|\
+        the set that governs has no ROM|the governing set's first ROM is of a type that logical reads do not cover|\
         a control pin of the type is not on one of the sixteen pins that are read|\
         the address is above the ROM's last|logical reads do not cover a 28C16|a data pin is at 8 or above\n\
         there is no such set|the read goes past the set's size|\
@@ -67,9 +69,8 @@ pub(crate) fn words(out: &mut Out, number: u32) {
         not levels, as cs1=1,x2=0 (of cs1 cs2 cs3 x1 x2), or low|\
         there is no such file|it is a directory\n\
         it may not be read|it cannot be read|\
-        larger than 2 MiB; its start is enough: head -c 2097152|\
-        set 0, by which reads go, differs in ROM count or first type|\
-        the file is empty|the bytes could not all be written|it needs a FILE in front, or - for standard input|\
+        larger than 2 MiB; its start is enough: head -c 2097152||the file is empty|\
+        the bytes could not all be written|it needs a FILE in front, or - for standard input|\
         a UF2 file, no dump: unpack it first, as with uf2conv.py|\
         an ELF file, no dump: make one first, as with objcopy -O binary|\
         another program answers this; ./bench runs the right one",

@@ -1,9 +1,11 @@
 // Bytes of a set: as a socket would see them, as they are stored, and one by itself. Each call says the status that the program ends with.
-use bench_form::form;
+// A socket's bytes go by the set's own ROM count and first type; where it is asked for, by set 0's.
+use bench_form::choice;
 use bench_form::told;
 use bench_out::Out;
 use bench_refuse::Asked;
 use board::Board;
+use byte_reads::ByteRead;
 use info::SdrrAddress;
 use rows::SetWord;
 use types::SdrrCsSet;
@@ -33,44 +35,44 @@ fn fill_end(number: u8, length: usize) -> Filled
     Filled { number: n, length }
 }
 
-// 80: no such set. 113: the set's ROM count or first type differs from set 0's, by which a logical read goes. Sets without ROMs have no
-// type that could differ: the library says 74 of them.
-fn logical_number(board: Board, set_rows: &[u32], rom_rows: &[u32], set: u32) -> u8 {
+// 80: no such set. It comes before all else, so that 71 is never said of a board without sets.
+fn set_number(board: Board, set_rows: &[u32], set: u32) -> u8 {
     let size = set_data::get_rom_set_size(board.served, set_rows, set);
-    if size.number != 0 {
-        return size.number;
-    }
-    let count = rows::set_word(set_rows, set, SetWord::RomCount);
-    if count != rows::set_word(set_rows, 0, SetWord::RomCount) {
-        return 113;
-    }
-    if count == 0 {
-        return 0;
-    }
-    if bench_rows::first_type(set_rows, rom_rows, set)
-        != bench_rows::first_type(set_rows, rom_rows, 0)
-    {
-        return 113;
-    }
-    0
+    size.number
 }
 
-// The bytes at addresses 0 to the mask, which ends where the library says 77.
-fn fill(
+fn refuse_set(asked: Asked, number: u8, set: u32) -> u8 {
+    bench_refuse::part(asked, number, b", set %d%g", &[set, asked.by_set_0 as u32])
+}
+
+fn refuse_address(asked: Asked, number: u8, set: u32, at: u32) -> u8 {
+    bench_refuse::part(
+        asked,
+        number,
+        b", set %d, address %x%g",
+        &[set, at, asked.by_set_0 as u32],
+    )
+}
+
+// The set whose ROM count and first type a read goes by.
+fn by_set(asked: Asked, set: u32) -> u32 {
+    if asked.by_set_0 { 0 } else { set }
+}
+
+// The byte at an address as the socket has it.
+fn logical_byte(
     image: &[u8],
     board: Board,
     set_rows: &[u32],
     rom_rows: &[u32],
+    by_set_0: bool,
     set: u32,
+    at: u32,
     cs_set: SdrrCsSet,
-    space: &mut [u8],
-) -> Filled
-    ensures { λ r. ⌜ Counts (r .length) (now (space .exit)) ⌝ }
-{
-    let mut i: usize = 0;
-    while i < space.len() {
-        let address = SdrrAddress::Logical((i % 4294967296) as u32, cs_set);
-        let r = byte_reads::read_rom_byte_demangled(
+) -> ByteRead {
+    if by_set_0 {
+        let address = SdrrAddress::Logical(at, cs_set);
+        return byte_reads::read_rom_byte_demangled(
             image,
             board,
             set_rows,
@@ -79,6 +81,27 @@ fn fill(
             address,
             0,
         );
+    }
+    own_reads::read_rom_byte_own(image, board, set_rows, rom_rows, set, at, cs_set, 0)
+}
+
+// The bytes at addresses 0 to the mask, which ends where the library says 77.
+fn fill(
+    image: &[u8],
+    board: Board,
+    set_rows: &[u32],
+    rom_rows: &[u32],
+    by_set_0: bool,
+    set: u32,
+    cs_set: SdrrCsSet,
+    space: &mut [u8],
+) -> Filled
+    ensures { λ r. ⌜ Counts (r .length) (now (space .exit)) ⌝ }
+{
+    let mut i: usize = 0;
+    while i < space.len() {
+        let at = (i % 4294967296) as u32;
+        let r = logical_byte(image, board, set_rows, rom_rows, by_set_0, set, at, cs_set);
         if r.number != 0 {
             return fill_end(r.number, i);
         }
@@ -88,13 +111,13 @@ fn fill(
     fill_end(0, i)
 }
 
-// What follows the bytes: a script is told on standard error how many there were.
-fn counted(asked: Asked, status: u8, length: u32) -> u8 {
-    if !base::both(asked.machine, status == 0) {
+// What stands beside bytes that were written whole, on standard error.
+fn beside(asked: Asked, status: u8, forms: &[u8], numbers: &[u32]) -> u8 {
+    if status != 0 {
         return status;
     }
-    let mut out = bench_out::to(2, true);
-    form(&mut out, b"ok\nbytes %d\n", &[length]);
+    let mut out = bench_out::to(2, asked.machine);
+    told(&mut out, forms, numbers);
     bench_out::flush(&mut out);
     if bench_out::is_whole(&out) {
         return 0;
@@ -102,9 +125,24 @@ fn counted(asked: Asked, status: u8, length: u32) -> u8 {
     1
 }
 
-fn done(asked: Asked, out: &mut Out, set: u32, length: u32) -> u8 {
+// A script is told which set the bytes were read by, and how many there were; a person only where set 0 was asked for.
+fn read_done(asked: Asked, out: &mut Out, set: u32, length: u32) -> u8 {
+    let status = bench_refuse::ended(asked, out, b", set %d%g", &[set, asked.by_set_0 as u32]);
+    if !base::either(asked.machine, asked.by_set_0) {
+        return status;
+    }
+    beside(
+        asked,
+        status,
+        b"bench: set %d is read by set %d's ROM count and first type\n|\
+        ok\n%_by_set %d\nbytes %d\n",
+        &[set, by_set(asked, set), length],
+    )
+}
+
+fn raw_done(asked: Asked, out: &mut Out, set: u32, length: u32) -> u8 {
     let status = bench_refuse::ended(asked, out, b", set %d", &[set]);
-    counted(asked, status, length)
+    beside(asked, status, b"|ok\nbytes %d\n", &[length])
 }
 
 // Reads the set's bytes into the space, and writes them where all could be read.
@@ -118,7 +156,17 @@ fn read_into(
     cs_set: SdrrCsSet,
 ) -> u8 {
     let mut space = byte_space();
-    let f = fill(image, board, set_rows, rom_rows, set, cs_set, &mut space);
+    let by_set_0 = asked.by_set_0;
+    let f = fill(
+        image,
+        board,
+        set_rows,
+        rom_rows,
+        by_set_0,
+        set,
+        cs_set,
+        &mut space,
+    );
     let n = f.length;
     written(asked, &space[..n], set, f.number)
 }
@@ -127,11 +175,11 @@ fn read_into(
 fn written(asked: Asked, bytes: &[u8], set: u32, number: u8) -> u8 {
     let at = (bytes.len() % 4294967296) as u32;
     if number != 0 {
-        return bench_refuse::part(asked, number, b", set %d, address %x", &[set, at]);
+        return refuse_address(asked, number, set, at);
     }
     let mut out = bench_out::to(1, asked.machine);
     bench_out::bytes(&mut out, bytes);
-    done(asked, &mut out, set, at)
+    read_done(asked, &mut out, set, at)
 }
 
 pub fn read(
@@ -143,9 +191,9 @@ pub fn read(
     set: u32,
     cs_set: SdrrCsSet,
 ) -> u8 {
-    let number = logical_number(board, set_rows, rom_rows, set);
+    let number = set_number(board, set_rows, set);
     if number != 0 {
-        return bench_refuse::part(asked, number, b", set %d", &[set]);
+        return refuse_set(asked, number, set);
     }
     read_into(asked, image, board, set_rows, rom_rows, set, cs_set)
 }
@@ -216,25 +264,43 @@ pub fn raw(asked: Asked, image: &[u8], board: Board, set_rows: &[u32], set: u32)
     let size = rows::set_word(set_rows, set, SetWord::Size);
     let mut out = bench_out::to(1, asked.machine);
     raw_all(&mut out, image, board, set_rows, set, size);
-    done(asked, &mut out, set, size)
+    raw_done(asked, &mut out, set, size)
 }
 
-// A byte, where in the set it is stored, and as what.
+// A byte, which set it is read by, where in the set it is stored, and as what.
 fn show_byte(asked: Asked, set: u32, at: u32, byte: u8, stored: u8, offset: u32) -> u8 {
     let mut out = bench_out::to(1, asked.machine);
     told(
         &mut out,
-        b"set %d, address %x: %b (stored as %b at offset %x)\n|\
-        ok\nset %d\naddress %d\nbyte %d\nstored.byte %d\nstored.offset %d\n",
-        &[set, at, byte as u32, stored as u32, offset],
+        b"set %d%_, address %x: %b|ok\nset %d\nby_set %d\naddress %d\nbyte %d\n",
+        &[set, by_set(asked, set), at, byte as u32],
+    );
+    choice(&mut out, b"|| by set 0|", asked.by_set_0 as u8, &[]);
+    told(
+        &mut out,
+        b" (stored as %b at offset %x)\n|stored.byte %d\nstored.offset %d\n",
+        &[stored as u32, offset],
     );
     bench_refuse::end(asked, &mut out)
 }
 
 // Where in the set the byte at an address is stored.
-fn offset_of(board: Board, set_rows: &[u32], rom_rows: &[u32], at: u32, cs_set: SdrrCsSet) -> u32 {
+fn offset_of(
+    board: Board,
+    set_rows: &[u32],
+    rom_rows: &[u32],
+    by_set_0: bool,
+    set: u32,
+    at: u32,
+    cs_set: SdrrCsSet,
+) -> u32 {
     let pins = board.pins;
-    let m = info::mangle_address(pins, board.served, set_rows, rom_rows, at, cs_set);
+    let served = board.served;
+    if by_set_0 {
+        let m = info::mangle_address(pins, served, set_rows, rom_rows, at, cs_set);
+        return m.value;
+    }
+    let m = info::mangle_own(pins, served, set_rows, rom_rows, set, at, cs_set);
     m.value
 }
 
@@ -248,13 +314,14 @@ fn byte_at(
     at: u32,
     cs_set: SdrrCsSet,
 ) -> u8 {
-    let address = SdrrAddress::Logical(at, cs_set);
-    let r = byte_reads::read_rom_byte_demangled(image, board, set_rows, rom_rows, set, address, 0);
+    let by_set_0 = asked.by_set_0;
+    let r = logical_byte(image, board, set_rows, rom_rows, by_set_0, set, at, cs_set);
     if r.number != 0 {
-        return bench_refuse::part(asked, r.number, b", set %d, address %x", &[set, at]);
+        return refuse_address(asked, r.number, set, at);
     }
-    let s = byte_reads::read_rom_byte_raw(image, board, set_rows, rom_rows, set, address, 0);
-    let offset = offset_of(board, set_rows, rom_rows, at, cs_set);
+    let offset = offset_of(board, set_rows, rom_rows, by_set_0, set, at, cs_set);
+    let place = SdrrAddress::Raw(offset);
+    let s = byte_reads::read_rom_byte_raw(image, board, set_rows, rom_rows, set, place, 0);
     show_byte(asked, set, at, r.byte, s.byte, offset)
 }
 
@@ -268,9 +335,9 @@ pub fn byte(
     at: u32,
     cs_set: SdrrCsSet,
 ) -> u8 {
-    let number = logical_number(board, set_rows, rom_rows, set);
+    let number = set_number(board, set_rows, set);
     if number != 0 {
-        return bench_refuse::part(asked, number, b", set %d", &[set]);
+        return refuse_set(asked, number, set);
     }
     byte_at(asked, image, board, set_rows, rom_rows, set, at, cs_set)
 }

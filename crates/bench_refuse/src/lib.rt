@@ -4,10 +4,11 @@ use bench_args::Request;
 use bench_form::form;
 use bench_out::Out;
 
-// How the answer is wanted: for a script, as bytes on standard output; and the argument that names the file (0: the sample).
+// How the answer is wanted: for a script, as bytes on standard output, by set 0's ROMs; and the argument that names the file (0: the sample).
 pub struct Asked {
     pub machine: bool,
     pub bytes: bool,
+    pub by_set_0: bool,
     pub file: usize,
 }
 
@@ -15,6 +16,7 @@ pub fn how(request: Request) -> Asked {
     Asked {
         machine: request.machine,
         bytes: bench_args::is_bytes(request),
+        by_set_0: request.by_set_0,
         file: request.file,
     }
 }

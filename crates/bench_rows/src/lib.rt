@@ -40,10 +40,6 @@ pub fn rom_row(set_rows: &[u32], set: u32, k: u32) -> u32 {
     first + k
 }
 
-pub fn first_type(set_rows: &[u32], rom_rows: &[u32], set: u32) -> u32 {
-    rows::rom_word(rom_rows, rom_row(set_rows, set, 0), RomWord::Type)
-}
-
 // The address of the dump's first byte.
 pub fn base_of(board: Board) -> u32 {
     let line = board.line;

@@ -9,10 +9,10 @@ use Rattle.bench_reads.proofs.fill.Tie as tie
 use Rattle.bench_reads.proofs.fill.Reads as reads
 
 abbrev Inv-loop : tie.InvT-loop
-Inv-loop image board set-rows rom-rows set cs-set space₀ i₀ space i = (i ≤ length space) × (length space ≡ length space₀)
+Inv-loop image board set-rows rom-rows by-set-0 set cs-set space₀ i₀ space i = (i ≤ length space) × (length space ≡ length space₀)
 
 abbrev μ-loop : tie.MeasureT-loop
-μ-loop image board set-rows rom-rows set cs-set space₀ i₀ space i = length space - i
+μ-loop image board set-rows rom-rows by-set-0 set cs-set space₀ i₀ space i = length space - i
 
 returns : tie.Need-returns Inv-loop μ-loop
 returns c = (search needs, sym (length-take-le _ _ (search needs)))

@@ -11,10 +11,11 @@ use borrow.Author.Tests.{ltb-false, eqb-true, eq-eqb, ne-eqb}
 use Rattle.base.specs.Laws.{clash}
 use Rattle.base.specs.Choice.{pick}
 use Rattle.window.specs.Window.{baseAfter, beyondWindow}
+use Rattle.types.specs.declared.SdrrCsSet.{SdrrCsSet}
 use Rattle.prog.specs.Prog.{run}
 use Rattle.prog.specs.Laws.Run.{run-map}
 use Rattle.info.specs.Lent.{Lent}
-use Rattle.info.specs.Reads.{Bytes, noBytes, countNumber, RomRead, lengthOf, storedP, shownOf, finished, readP, Reply, readReply, romRead, bufferLeft, ReadCall, replyTo, countAfter, acceptedLength, acceptedLengths}
+use Rattle.info.specs.Reads.{Bytes, noBytes, countNumber, RomRead, own, lengthOf, storedP, shownOf, finished, readP, Reply, readReply, romRead, bufferLeft, ReadCall, replyTo, countAfter, acceptedLength, acceptedLengths}
 
 module _ (flashBase cs0Base : ℕ) (l : Lent) (x : List ℕ) where
   -- one read: an accepted one adds its length, a refused one nothing
@@ -32,6 +33,11 @@ module _ (flashBase cs0Base : ℕ) (l : Lent) (x : List ℕ) where
           ≡ count + acceptedLength (pick b (record { number = 1; bytes = []; count = count }) (readReply count r bs)) r
       go true bs = omega arith
       go false bs = plain (eqb (bs .number) 0) (lengthOf r)
+
+  -- wish 1: a byte by the set's own ROMs counts 1
+  pub own-counts : (count set address : ℕ) (levels : SdrrCsSet) → romRead flashBase cs0Base l count (own set address levels) x .number ≡ 0
+      → romRead flashBase cs0Base l count (own set address levels) x .count ≡ count + 1
+  own-counts count set address levels e = rw (eq-eqb (romRead flashBase cs0Base l count (own set address levels) x .number) 0 e) at (count-step count (own set address levels))
 
   -- 82 keeps it within 32 bits
   counted : (count : ℕ) (r : RomRead) (b : Bytes) → finished l count r b .number ≡ 0 → count + lengthOf r ≤ 4294967295

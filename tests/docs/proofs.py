@@ -8,7 +8,7 @@ import sys
 ROOT = os.path.join(os.path.dirname(os.path.abspath(__file__)), "..", "..")
 CRATES = os.path.join(ROOT, "crates")
 
-# Document 01's sections in its order, and the files that define what each says.
+# Document 01's sections in its order, and the files that define what each says, with what document 02 adds to it.
 READING = [
     ("what every definition is written with", ["base/Choice", "le/Le", "runs/Runs", "magic/Magic", "prog/Prog"]),
     ("Window", ["window/Window"]),
@@ -23,7 +23,7 @@ READING = [
     ("Lent rows, ROM data, same set", ["board/Board", "set_data/Data", "governing/Governing", "info/Lent", "info/Reads", "same_set/Same", "data_reads/Calls", "byte_reads/Calls"]),
     ("Runtime", ["runtime_info/Runtime", "runtime_info/Words"]),
     ("demand 3", ["cut_short/Shown", "cut_short/ReadAfter", "cut_short/Demand3"]),
-    ("the calls of C and Rust", ["c_board/Board", "c_board/Value", "c_report/Report", "c_handed/Handed", "c_open/Opening", "c_reads/Reads", "c_mangle/Board"]),
+    ("the calls of C and Rust", ["c_board/Board", "c_board/Value", "c_report/Report", "c_handed/Handed", "c_open/Opening", "c_reads/Reads", "c_own/Own", "c_mangle/Board"]),
 ]
 # Files at the top of specs/ that no buyer needs: the root, and a program's table.
 NOT_READ = {"Lib", "Laws", "Code", "Examples"}

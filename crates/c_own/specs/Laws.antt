@@ -22,7 +22,7 @@ module _ (f c : ℕ) (report : OneromReport) (sets roms : List ℕ) (set address
     (given : SdrrCsSet) (taken : given ≡ levelsFrom levels)
     (m : Mangled) (leads : m ≡ mangleOwn pins (report .«rom_sets» .served) sets roms set address given)
     (raw : ByteRead) (read : raw ≡ byteAt f c line (report .«rom_sets» .served) sets set m count x)
-    (shown : ByteRead) (demangled : shown ≡ shownFrom (report .pins .number) (report .pins .«data») raw count) where
+    (shown : ByteRead) (demangled : shown ≡ shownFrom 0 (report .pins .«data») raw count) where
   pub own-read : shown ≡ ownCall f c report sets roms set address levels count x
   unfolding ownCall boardIn pinsIn
   own-read =

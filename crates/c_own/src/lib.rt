@@ -43,6 +43,6 @@ pub fn own_byte_call(
         before,
     );
     let data = held.data;
-    let shown = byte_reads::shown_byte(held.number, data, raw, before);
+    let shown = own_reads::shown_own(data, raw, before);
     c_byte::give(shown, count, value)
 }

@@ -16,8 +16,8 @@ returns c =
     let e = line .before .before .before .before .before .args in
     let read =
     own-read (e .flash-base) (e .cs0-base) (e .report) (e .set-rows .now) (e .rom-rows .now) (e .set) (e .address) (e .levels .now) (e .count .now) (e .image .now) (line .line-in .result) (line .line-in .ensures) (pins .pins-in .result) (pins .pins-in .ensures) (levels .levels-from .result) (levels .levels-from .ensures)
-    (m .mangle-own .result) (m .mangle-own .ensures) (at .byte-at .result) (at .byte-at .ensures) (shown .shown-byte .result) (shown .shown-byte .ensures) in
-    byte-given _ (shown .shown-byte .result) read (c .give .result) _ _ _ (g .0) (g .1 .0) (g .1 .1)
+    (m .mangle-own .result) (m .mangle-own .ensures) (at .byte-at .result) (at .byte-at .ensures) (shown .shown-own .result) (shown .shown-own .ensures) in
+    byte-given _ (shown .shown-own .result) read (c .give .result) _ _ _ (g .0) (g .1 .0) (g .1 .1)
 
 pub own-byte-call-spec : {M : Type 1} → statement M
 own-byte-call-spec =

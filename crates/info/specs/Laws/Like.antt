@@ -63,6 +63,13 @@ mangled-governed g pins address levels e =
     (λ h. eqb-true (g .number) 0 h)
     (λ h. let none = eqb-false (g .number) 0 h in absurd (none (ap (λ (t : Mangled). t .number) (sym (not-governed g pins address levels none)) ∙ e)))
 
+-- and by the set's own ROMs it has accepted pins
+pub own-accepted : (l : Lent) (set address : ℕ) (levels : SdrrCsSet) → ownPhysical l set address levels .number ≡ 0 → l .pins .number ≡ 0
+unfolding mangleOwn
+own-accepted l set address levels e =
+    let g = governingOwn (l .pins .number) (l .served) (l .setWords) (l .romWords) set in
+    own-governs (l .pins .number) (l .served) (l .setWords) (l .romWords) set (mangled-governed g (l .pins) address levels e) .accepted-pins
+
 module _ {l m : Lent} (like : Like l m) where
   -- an accepted mangling has accepted pins
   mangle-pins : (address : ℕ) (levels : SdrrCsSet) → mangleAddress (l .pins) (l .served) (l .setWords) (l .romWords) address levels .number ≡ 0 → l .pins ≡ m .pins
@@ -79,10 +86,8 @@ module _ {l m : Lent} (like : Like l m) where
 
   -- by the set's own ROMs too
   own-pins : (set address : ℕ) (levels : SdrrCsSet) → ownPhysical l set address levels .number ≡ 0 → l .pins ≡ m .pins
-  unfolding mangleOwn
   own-pins set address levels e =
-      let g = governingOwn (l .pins .number) (l .served) (l .setWords) (l .romWords) set in
-      let pins = own-governs (l .pins .number) (l .served) (l .setWords) (l .romWords) set (mangled-governed g (l .pins) address levels e) .accepted-pins in
+      let pins = own-accepted l set address levels e in
       ⊎-elim (λ (h : l .pins .number ≡ 2). absurd (omega arith)) (λ h. h) (like .pins)
 
   own-like : (set address : ℕ) (levels : SdrrCsSet) → ownPhysical l set address levels .number ≡ 0 → ownPhysical l set address levels ≡ ownPhysical m set address levels

@@ -10,7 +10,7 @@ returns c =
     let m = at .before in
     let entry = m .before .before .before .before .before .args in
     byte-own (entry .board .«flash_base») (entry .board .«cs0_base») (lentBy (entry .board) (entry .set-rows .now) (entry .rom-rows .now)) (entry .count) (entry .image .now) (entry .set) (entry .address) (entry .cs-set)
-    (m .mangle-own .result) (m .mangle-own .ensures) (at .byte-at .result) (at .byte-at .ensures) (c .shown-byte .result) (c .shown-byte .ensures)
+    (m .mangle-own .result) (m .mangle-own .ensures) (at .byte-at .result) (at .byte-at .ensures) (c .shown-own .result) (c .shown-own .ensures)
 
 pub read-rom-byte-own-spec : {M : Type 1} → statement M
 read-rom-byte-own-spec = tie.close (tie.spec (λ c κs. search needs) (λ c κs. search needs) (λ c κs. search needs) returns)

@@ -17,6 +17,7 @@ use Rattle.mangle.specs.declared.Mangled.{Mangled}
 use Rattle.info.specs.declared.SdrrAddress.{SdrrAddress}
 use Rattle.info.specs.Lent.{Lent}
 use Rattle.info.specs.Reads.{noBytes, byte, own, physical, ownPhysical, byteP, storedP, finished, readP, Reply, readReply, romRead}
+use Rattle.info.specs.Laws.Like.{own-accepted}
 use Rattle.info.specs.Laws.Calls.{refusedReply, read-beyond}
 use Rattle.byte_reads.specs.declared.ByteRead.{ByteRead}
 use Rattle.byte_reads.specs.Calls.{byteOf}
@@ -72,10 +73,10 @@ module _ (flashBase cs0Base : ℕ) (l : Lent) (count : ℕ) (x : List ℕ) (set 
 
       -- as the code has it: by the address as it has mangled it, the byte that stands there, and that demangled
       module _ (raw : ByteRead) (stored : raw ≡ byteAt flashBase cs0Base (l .line) (l .served) (l .setWords) set m count x)
-          (r : ByteRead) (shown : r ≡ shownFrom (l .pins .number) (l .pins .«data») raw count) where
+          (r : ByteRead) (shown : r ≡ shownFrom 0 (l .pins .«data») raw count) where
         kept : (n : ℕ) → raw ≡ noByte n count → (n ≡ 0 → ⊥) → r ≡ noByte n count
         kept n e h =
-            shown ∙ shown-refused (l .pins .number) (l .pins .«data») raw count (λ (z : raw .number ≡ 0). h (ap (λ (b : ByteRead). b .number) (sym e) ∙ z)) ∙ e
+            shown ∙ shown-refused 0 (l .pins .«data») raw count (λ (z : raw .number ≡ 0). h (ap (λ (b : ByteRead). b .number) (sym e) ∙ z)) ∙ e
 
         refused-alike : (m .number ≡ 0 → ⊥) → r ≡ byteOf (romRead flashBase cs0Base l count (own set address levels) x)
         unfolding byteAt
@@ -87,8 +88,10 @@ module _ (flashBase cs0Base : ℕ) (l : Lent) (count : ℕ) (x : List ℕ) (set 
         accepted-alike : m .number ≡ 0 → r ≡ byteOf (romRead flashBase cs0Base l count (own set address levels) x)
         accepted-alike e =
             let a = SdrrAddress.Raw (m .value) in
+            let pins : shownFrom 0 (l .pins .«data») raw count ≡ shownFrom (l .pins .number) (l .pins .«data») raw count =
+            ap (λ (n : ℕ). shownFrom n (l .pins .«data») raw count) (sym (own-accepted l set address levels (ap (λ (t : Mangled). t .number) (sym mangled) ∙ e))) in
             let first = byte-raw flashBase cs0Base l count x set a m (ap (λ (n : ℕ). record { number = n; value = m .value }) e) raw stored in
-            byte-demangled flashBase cs0Base l count x set a raw first r shown ∙ sym (ap byteOf (own-at-offset e))
+            byte-demangled flashBase cs0Base l count x set a raw first r (shown ∙ pins) ∙ sym (ap byteOf (own-at-offset e))
 
         pub byte-own : r ≡ byteOf (romRead flashBase cs0Base l count (own set address levels) x)
         byte-own = cases (eqb (m .number) 0) (λ h. accepted-alike (eqb-true (m .number) 0 h)) (λ h. refused-alike (eqb-false (m .number) 0 h))

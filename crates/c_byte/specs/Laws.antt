@@ -1,4 +1,4 @@
--- What a call has left in its words where it gave a read: what the proofs of the calls cite.
+-- What stands in a call's lent words after `give`: what the proofs of the calls cite.
 -- Assumes nothing.
 use Prim.Native.Nat.{ℕ}
 use mathlib.Core.Path.{_≡_, sym, ap, ap₂, _∙_}

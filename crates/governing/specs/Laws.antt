@@ -40,7 +40,7 @@ module _ (sets roms : List ℕ) (i : ℕ) where
   unfolding governing
   by-set h e = rw (h, e)
 
-  -- by its own row and its first ROM's type; refused, it is 4
+  -- accepted, it is by the set's own row and its first ROM's type
   pub governing-lent : governing sets roms i .number ≡ 0
       → (hasSetRow sets i ≡ true)
       × (governing sets roms i ≡ record { number = 0; «rom_count» = romCount sets i; «rom_type» = romTypeOf (typeWord roms (firstRom sets i)) })
@@ -52,6 +52,7 @@ module _ (sets roms : List ℕ) (i : ℕ) where
       (λ j. (h, by-set h j)))
       (λ h. let z : _≡_ {A = ℕ} 4 0 = ap (λ (g : GoverningSet). g .number) (sym (no-set-row h)) ∙ e in absurd (omega arith))
 
+  -- refused, it is 4
   pub governing-4 : (governing sets roms i .number ≡ 0 → ⊥) → governing sets roms i ≡ ungoverned 4
   governing-4 n =
       cases (hasSetRow sets i)

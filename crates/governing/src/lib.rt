@@ -67,7 +67,7 @@ pub fn governing_set_0(
     governing(set_rows, rom_rows, 0)
 }
 
-// The named set governs: 80 and 4 before the pins are looked at, and no row of set 0's unless it is named.
+// The named set governs: 80 and 4 before the pins are looked at. Set 0's rows are looked at only where set 0 is named.
 pub fn governing_own(
     pins_number: u8,
     served: u32,

@@ -1,5 +1,5 @@
 pub mod Steps
-pub mod Range
 pub mod Numbers
+pub mod Promises
 pub mod Set0
 pub mod Looks

@@ -6,20 +6,10 @@ ghost use mathlib.Core.Path.{_≡_};
 ghost use Rattle.info.specs.Lent.{lentBy};
 ghost use Rattle.info.specs.Reads.{own, romRead};
 ghost use Rattle.byte_reads.specs.Calls.{byteOf};
-ghost use Rattle.byte_reads.specs.Code.{noByte, shownFrom};
-
-fn no_byte(number: u8, count: u32) -> ByteRead
-    ensures { λ r. ⌜ r ≡ noByte number count ⌝ }
-{
-    ByteRead {
-        number,
-        byte: 0,
-        count,
-    }
-}
+ghost use Rattle.byte_reads.specs.Code.{shownFrom};
 
 // A raw byte that was read, demangled: 79 counts nothing. 70 is not asked again, since a byte that was read had accepted pins. byte_reads' own
-// function is left to the old read, so that the compiler joins each to its only caller.
+// function is left to the old read: so in C's archive each has one caller, to which the compiler joins it.
 pub fn shown_own(data: [u8; 8], raw: ByteRead, count: u32) -> ByteRead
     ensures { λ r. ⌜ r ≡ shownFrom 0 «data» raw count ⌝ }
 {
@@ -28,7 +18,11 @@ pub fn shown_own(data: [u8; 8], raw: ByteRead, count: u32) -> ByteRead
     }
     let d = demangle::demangle_core(data, raw.byte);
     if d.number != 0 {
-        return no_byte(d.number, count);
+        return ByteRead {
+            number: d.number,
+            byte: 0,
+            count,
+        };
     }
     ByteRead {
         number: 0,

@@ -1,7 +1,6 @@
 use native.Mathlib.Omega.{arith}
-use mathlib.Core.Path.{_≡_, sym, ap, _∙_}
+use mathlib.Core.Path.{_≡_, sym, _∙_}
 use borrow.Author.Needs.{needs}
-use Rattle.governing.specs.declared.GoverningSet.{GoverningSet}
 use Rattle.governing.specs.Laws.{own-no-set, own-no-row, own-no-pins, own-by-set}
 use Rattle.governing.proofs.governing_own.Statement.{statement}
 use Rattle.governing.proofs.governing_own.Tie as tie

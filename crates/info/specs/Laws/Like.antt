@@ -9,18 +9,15 @@ use mathlib.Core.List.{List}
 use lib.Dec.{ltb, leb, eqb}
 use lib.ListN.{length, getD}
 use borrow.Author.Tests.{eqb-true, eqb-false, ne-eqb, eq-eqb, le-leb}
-use Rattle.base.specs.Laws.{cases, clash}
+use Rattle.base.specs.Laws.{cases}
 use Rattle.base.specs.Choice.{pick}
 use Rattle.prog.specs.Prog.{Prog, done, run, mapP}
 use Rattle.prog.specs.Laws.Run.{run-done, run-map}
 use Rattle.prog.specs.Laws.Honest.{Honest, honest-done, honest-fetch, honest-pick, honest-map, honesty}
 use Rattle.types.specs.declared.SdrrCsSet.{SdrrCsSet}
 use Rattle.governing.specs.Governing.{governing, governingSet0, governingOwn}
-use Rattle.governing.specs.Laws.{own-governs}
-use Rattle.governing.specs.declared.GoverningSet.{GoverningSet}
-use Rattle.board.specs.declared.BoardPins.{BoardPins}
 use Rattle.mangle.specs.declared.Mangled.{Mangled}
-use Rattle.info.specs.Laws.Steps.{not-governed}
+use Rattle.info.specs.Laws.Steps.{own-accepted}
 use Rattle.info.specs.declared.SdrrAddress.{SdrrAddress}
 use Rattle.info.specs.Lent.{Lent, firstRom, typeWord, setNumber, mangledBy, mangleAddress, mangleOwn, demangleByte}
 use Rattle.info.specs.Reads.{Bytes, noBytes, dataP, shownByte, RomRead, range, byte, own, physical, ownPhysical, byteP, storedP, shownOf, countNumber, lengthOf, finished, readP}
@@ -56,20 +53,6 @@ byte-address l base set a x e = go (eqb (a .number) 0) refl e
     go true h i = eqb-true (a .number) 0 h
     go false h i = i
 
--- an accepted mangling is governed
-mangled-governed : (g : GoverningSet) (pins : BoardPins) (address : ℕ) (levels : SdrrCsSet) → mangledBy g pins address levels .number ≡ 0 → g .number ≡ 0
-mangled-governed g pins address levels e =
-    cases (eqb (g .number) 0)
-    (λ h. eqb-true (g .number) 0 h)
-    (λ h. let none = eqb-false (g .number) 0 h in absurd (none (ap (λ (t : Mangled). t .number) (sym (not-governed g pins address levels none)) ∙ e)))
-
--- and by the set's own ROMs it has accepted pins
-pub own-accepted : (l : Lent) (set address : ℕ) (levels : SdrrCsSet) → ownPhysical l set address levels .number ≡ 0 → l .pins .number ≡ 0
-unfolding mangleOwn
-own-accepted l set address levels e =
-    let g = governingOwn (l .pins .number) (l .served) (l .setWords) (l .romWords) set in
-    own-governs (l .pins .number) (l .served) (l .setWords) (l .romWords) set (mangled-governed g (l .pins) address levels e) .accepted-pins
-
 module _ {l m : Lent} (like : Like l m) where
   -- an accepted mangling has accepted pins
   mangle-pins : (address : ℕ) (levels : SdrrCsSet) → mangleAddress (l .pins) (l .served) (l .setWords) (l .romWords) address levels .number ≡ 0 → l .pins ≡ m .pins
@@ -87,7 +70,7 @@ module _ {l m : Lent} (like : Like l m) where
   -- by the set's own ROMs too
   own-pins : (set address : ℕ) (levels : SdrrCsSet) → ownPhysical l set address levels .number ≡ 0 → l .pins ≡ m .pins
   own-pins set address levels e =
-      let pins = own-accepted l set address levels e in
+      let pins = own-accepted (l .pins) (l .served) (l .setWords) (l .romWords) set address levels e .accepted-pins in
       ⊎-elim (λ (h : l .pins .number ≡ 2). absurd (omega arith)) (λ h. h) (like .pins)
 
   own-like : (set address : ℕ) (levels : SdrrCsSet) → ownPhysical l set address levels .number ≡ 0 → ownPhysical l set address levels ≡ ownPhysical m set address levels

@@ -37,6 +37,7 @@ use Rattle.c_handed.specs.Laws.{handed-back}
 use Rattle.c_open.specs.Opening.{openCall, openingOut}
 use Rattle.c_reads.specs.Reads.{dataCall, byteCall}
 use Rattle.c_own.specs.Own.{ownCall}
+use Rattle.own_reads.specs.Laws.Set0.{partedNumber, set-0-new, set-0-old, set-0-parted}
 
 -- ---- the reads as they are called: each is a `romRead` by the report and rows as lent
 
@@ -93,6 +94,29 @@ pub refused-own : (f c : ℕ) (report : OneromReport) (sets roms : List ℕ) (se
 unfolding ownCall
 refused-own f c report sets roms set address levels count x before h =
     refused-one f c report sets roms count (own set address (levelsFrom levels)) x before h
+
+-- ---- wish 1: on set 0 `onerom_read_rom_byte_own` and the old read, `onerom_read_rom_byte_demangled` by a logical address
+
+module _ (f c : ℕ) (report : OneromReport) (sets roms : List ℕ) (address : ℕ) (levels : List ℕ) (count : ℕ) (x : List ℕ) where
+  abbrev newCall : ByteRead
+  newCall = ownCall f c report sets roms 0 address levels count x
+
+  abbrev oldCall : ByteRead
+  oldCall = byteCall true f c report sets roms 0 1 address levels count x
+
+  -- the new one accepts exactly if the old one does, and then byte and count are equal
+  pub own-accepts : newCall .number ≡ 0 → newCall ≡ oldCall
+  unfolding ownCall byteCall
+  own-accepts e = ap byteOf (set-0-new f c (lentBy (boardIn f c report) sets roms) count x address (levelsFrom levels) e)
+
+  pub old-accepts : oldCall .number ≡ 0 → newCall ≡ oldCall
+  unfolding ownCall byteCall
+  old-accepts e = ap byteOf (set-0-old f c (lentBy (boardIn f c report) sets roms) count x address (levelsFrom levels) e)
+
+  -- in every case byte and count are equal, and the number is the old one's, parted as said
+  pub own-parted : newCall ≡ record { number = partedNumber (lentBy (boardIn f c report) sets roms) (oldCall .number); byte = oldCall .byte; count = oldCall .count }
+  unfolding ownCall byteCall
+  own-parted = ap byteOf (set-0-parted f c (lentBy (boardIn f c report) sets roms) count x address (levelsFrom levels))
 
 -- ---- a report handed back unaltered: the reads are those of the opening's report
 

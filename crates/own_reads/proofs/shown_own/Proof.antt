@@ -13,10 +13,10 @@ returns c =
 
 returns-2 : tie.Need-returns-2
 returns-2 c =
-    let entry = c .before .before .before .before .before .before .args in
-    let e = c .before .before .before .demangle-core .ensures in
+    let entry = c .before .before .before .before .before .args in
+    let e = c .before .before .demangle-core .ensures in
     let read : entry .raw .number ≡ 0 = omega arith in
-    rw (shown-79 0 (entry .«data») (entry .raw) (entry .count) read (rw e at (c .before .if2 .taken)), ← e) (c .no-byte .ensures)
+    rw (shown-79 0 (entry .«data») (entry .raw) (entry .count) read (rw e at (c .if2 .taken)), ← e)
 
 returns-3 : tie.Need-returns-3
 returns-3 c =
@@ -28,4 +28,4 @@ returns-3 c =
     rw (shown-demangled 0 (entry .«data») (entry .raw) (entry .count) read (ap (λ (b : Demangled). b .number) (sym e) ∙ zero), ← e)
 
 pub shown-own-spec : {M : Type 1} → statement M
-shown-own-spec = tie.close (tie.spec returns (λ c κs. search needs) (λ c κs. search needs) returns-2 returns-3)
+shown-own-spec = tie.close (tie.spec returns (λ c κs. search needs) returns-2 returns-3)

@@ -3,7 +3,7 @@
 use Prim.Native.Nat.{ℕ, _+_, _<_, _≤_}
 use native.Mathlib.Omega.{arith}
 use mathlib.Core.Path.{_≡_, refl, sym, ap, _∙_}
-use mathlib.Core.Bool.{Bool, true, false, not}
+use mathlib.Core.Bool.{Bool, true, false, not, _||_}
 use mathlib.Core.List.{List}
 use lib.Dec.{ltb, leb, eqb}
 use borrow.Author.Tests.{eqb-true, eqb-false, eq-eqb, leb-true, leb-false}
@@ -12,13 +12,14 @@ use Rattle.base.specs.Choice.{pick}
 use Rattle.types.specs.Types.{romTypeOf}
 use Rattle.types.specs.declared.SdrrCsSet.{SdrrCsSet}
 use Rattle.window.specs.Window.{canRead, baseAfter, beyondWindow}
-use Rattle.rows.specs.LentRows.{dataPointer, sizeOf, firstRom, romCount, typeWord, setNumber}
+use Rattle.rows.specs.LentRows.{hasSetRow, dataPointer, sizeOf, firstRom, romCount, typeWord, setNumber}
 use Rattle.demangle.specs.Demangle.{allBelow, demangle}
 use Rattle.mangle.specs.declared.Mangled.{Mangled}
 use Rattle.mangle.specs.Mangle.{mangleCore}
+use Rattle.mangle.specs.Laws.Bits.{no-rom}
 use Rattle.governing.specs.declared.GoverningSet.{GoverningSet}
-use Rattle.governing.specs.Governing.{ungoverned, governing, governingOwn}
-use Rattle.governing.specs.Laws.{governing-lent, governing-4, own-no-set, own-no-row, own-no-pins, own-by-set}
+use Rattle.governing.specs.Governing.{ungoverned, lacksFirstRom, governing, governingOwn}
+use Rattle.governing.specs.Laws.{no-set-row, by-set, governing-lent, governing-4, own-no-set, own-no-row, own-no-pins, own-by-set}
 use Rattle.info.specs.declared.SdrrAddress.{SdrrAddress}
 use Rattle.info.specs.Lent.{Lent, unmangled, mangledBy}
 use Rattle.info.specs.Reads.{byte, own, ownPhysical, Reply, romRead}
@@ -30,7 +31,20 @@ use Rattle.byte_reads.specs.Calls.{byteOf}
 use Rattle.byte_reads.specs.Code.{storedByte, shownFrom}
 use Rattle.byte_reads.specs.Laws.Steps.{stored-raw, byte-demangled}
 use Rattle.own_reads.specs.Laws.Steps.{own-at-offset, own-unmangled}
-use Rattle.own_reads.specs.Laws.Range.{mangle-range}
+use Rattle.mangle.specs.Laws.Range.{mangle-range}
+
+-- 4: the set's row isn't among those lent; or it has ROMs, and its first ROM row isn't or has a type above 33
+abbrev pub lacksRows : (sets roms : List ℕ) → ℕ → Bool
+lacksRows sets roms i = not (hasSetRow sets i) || lacksFirstRom sets roms i
+
+pub lacks-rows : (sets roms : List ℕ) (i : ℕ) → not (eqb (governing sets roms i .number) 0) ≡ lacksRows sets roms i
+unfolding governing
+lacks-rows sets roms i = go (hasSetRow sets i) (lacksFirstRom sets roms i)
+  where
+    go : (a b : Bool) → not (eqb (pick (not a) (ungoverned 4) (pick b (ungoverned 4) (record { number = 0; «rom_count» = romCount sets i; «rom_type» = romTypeOf (typeWord roms (firstRom sets i)) })) .number) 0) ≡ (not a || b)
+    go true true = refl
+    go true false = refl
+    go false b = refl
 
 -- ---- where the address leads, by the named set
 
@@ -65,6 +79,24 @@ module _ (l : Lent) (set address : ℕ) (levels : SdrrCsSet) where
           ∙ ap (λ (t : GoverningSet). mangledBy t (l .pins) address levels)
           (own-by-set (l .pins .number) (l .served) (l .setWords) (l .romWords) set there lent h ∙ governing-lent (l .setWords) (l .romWords) set lent .1)
           ∙ governed _ (l .pins) address levels refl
+
+-- a set without ROMs: 80, 4 of its row, 70, 74, whatever the ROM rows hold
+pub leads-without-rom : (l : Lent) (set address : ℕ) (levels : SdrrCsSet) → romCount (l .setWords) set ≡ 0
+    → ownPhysical l set address levels ≡ unmangled (pick (leb (l .served) set) 80 (pick (not (hasSetRow (l .setWords) set)) 4 (pick (not (eqb (l .pins .number) 0)) 70 74)))
+leads-without-rom l set address levels none =
+    cases (leb (l .served) set)
+    (λ h. rw h (leads-80 l set address levels (leb-true (l .served) set h)))
+    (λ h.
+    let there = leb-false (l .served) set h in
+    rw h
+    (cases (hasSetRow (l .setWords) set)
+    (λ i.
+    let lent = ap (λ (t : GoverningSet). t .number) (by-set (l .setWords) (l .romWords) set i (rw (eq-eqb (romCount (l .setWords) set) 0 none) refl)) in
+    rw i
+    (cases (eqb (l .pins .number) 0)
+    (λ j. rw j (leads-on l set address levels there lent (eqb-true (l .pins .number) 0 j) ∙ rw none (no-rom (l .pins) _ address levels)))
+    (λ j. rw j (leads-70 l set address levels there lent (eqb-false (l .pins .number) 0 j)))))
+    (λ i. rw i (leads-4 l set address levels there (λ e. let z : _≡_ {A = ℕ} 4 0 = ap (λ (t : GoverningSet). t .number) (sym (no-set-row (l .setWords) (l .romWords) set i)) ∙ e in omega arith)))))
 
 -- ---- the numbers in their order
 
@@ -107,15 +139,14 @@ module _ (flashBase cs0Base : ℕ) (l : Lent) (count : ℕ) (x : List ℕ) (set 
         → romRead flashBase cs0Base l count (own set address levels) x .number ≡ m .number
     refused-with inside m e h = ap (λ (r : Reply). r .number) (own-unmangled flashBase cs0Base l count x set address levels m (sym e) inside h)
 
-    -- 1, 80, 4, 70, 72 to 78, 81, 2, 82, 79: ROM data's 80 and 4 and demangling's 70 do not come a second time
-    pub own-numbers : romRead flashBase cs0Base l count (own set address levels) x .number
+    by-governing : romRead flashBase cs0Base l count (own set address levels) x .number
         ≡ pick (beyondWindow flashBase cs0Base x) 1
         (pick (leb (l .served) set) 80
         (pick (not (eqb (governing (l .setWords) (l .romWords) set .number) 0)) 4
         (pick (not (eqb (l .pins .number) 0)) 70
         (pick (not (eqb (mangledBySet l set address levels .number) 0)) (mangledBySet l set address levels .number)
         (numberAt (mangledBySet l set address levels .value))))))
-    own-numbers =
+    by-governing =
         cases (beyondWindow flashBase cs0Base x)
         (λ h. rw (read-beyond flashBase cs0Base l count x (own set address levels) h, h))
         (λ h. rw h
@@ -147,12 +178,22 @@ module _ (flashBase cs0Base : ℕ) (l : Lent) (count : ℕ) (x : List ℕ) (set 
             (λ n. rw n (refused-with h m on (eqb-false (m .number) 0 n)))))
             (λ k. rw k (refused-with h (unmangled 70) (leads-70 l set address levels there lent (eqb-false (l .pins .number) 0 k)) (λ (z : _≡_ {A = ℕ} 70 0). omega arith)))
 
+    -- 1, 80, 4, 70, 72 to 78, 81, 2, 82, 79: ROM data's 80 and 4 and demangling's 70 do not come a second time
+    pub own-numbers : romRead flashBase cs0Base l count (own set address levels) x .number
+        ≡ pick (beyondWindow flashBase cs0Base x) 1
+        (pick (leb (l .served) set) 80
+        (pick (lacksRows (l .setWords) (l .romWords) set) 4
+        (pick (not (eqb (l .pins .number) 0)) 70
+        (pick (not (eqb (mangledBySet l set address levels .number) 0)) (mangledBySet l set address levels .number)
+        (numberAt (mangledBySet l set address levels .value))))))
+    own-numbers = rw (← (lacks-rows (l .setWords) (l .romWords) set)) by-governing
+
     -- ---- 71 cannot happen; and 70 cannot with accepted pins
 
     not-among : (k : ℕ) → 69 < k → k < 72 → ((t : ℕ) → pick (not (eqb (l .pins .number) 0)) 70 t ≡ k → t ≡ k)
         → romRead flashBase cs0Base l count (own set address levels) x .number ≡ k → ⊥
     not-among k low high behind e =
-        go (beyondWindow flashBase cs0Base x) (leb (l .served) set) (not (eqb (governing (l .setWords) (l .romWords) set .number) 0)) (sym own-numbers ∙ e)
+        go (beyondWindow flashBase cs0Base x) (leb (l .served) set) (not (eqb (governing (l .setWords) (l .romWords) set .number) 0)) (sym by-governing ∙ e)
       where
         last : (a b c d : Bool) → pick a 81 (pick b 2 (pick c 82 (pick d 0 79))) ≡ k → ⊥
         last true b c d h = omega arith

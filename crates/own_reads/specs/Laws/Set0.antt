@@ -6,7 +6,7 @@ use mathlib.Core.Path.{_≡_, refl, sym, ap, _∙_}
 use mathlib.Core.Bool.{Bool, true, false, not}
 use mathlib.Core.List.{List}
 use lib.Dec.{eqb}
-use borrow.Author.Tests.{eqb-true, eqb-false, eq-eqb, ne-eqb}
+use borrow.Author.Tests.{eqb-true, eqb-false, ne-eqb}
 use Rattle.base.specs.Laws.{cases}
 use Rattle.base.specs.Choice.{pick}
 use Rattle.types.specs.declared.SdrrCsSet.{SdrrCsSet}
@@ -14,25 +14,25 @@ use Rattle.window.specs.Window.{beyondWindow}
 use Rattle.mangle.specs.declared.Mangled.{Mangled}
 use Rattle.governing.specs.declared.GoverningSet.{GoverningSet}
 use Rattle.governing.specs.Governing.{ungoverned, governing, governingSet0, governingOwn}
-use Rattle.governing.specs.Laws.{no-pins, no-sets, by-set-0, own-no-row, own-no-pins, own-by-set}
+use Rattle.governing.specs.Laws.{no-pins, no-sets, by-set-0, own-no-row, own-by-set}
 use Rattle.info.specs.declared.SdrrAddress.{SdrrAddress}
-use Rattle.info.specs.Lent.{Lent, unmangled, mangledBy, mangleAddress}
+use Rattle.info.specs.Lent.{Lent, unmangled, mangledBy}
 use Rattle.info.specs.Reads.{byte, own, physical, ownPhysical, Reply, romRead}
 use Rattle.info.specs.Laws.Steps.{not-governed, in-two, own-in-two}
 use Rattle.info.specs.Laws.Calls.{refusedReply, read-beyond}
 use Rattle.own_reads.specs.Laws.Steps.{own-as-byte, byte-unmangled, own-unmangled}
-use Rattle.own_reads.specs.Laws.Numbers.{leads-80, leads-4, leads-70, never-70, never-71}
+use Rattle.own_reads.specs.Laws.Numbers.{lacksRows, lacks-rows, leads-80, leads-4, leads-70, never-70, never-71}
 
 -- The number of the new read where the old one has n. Old 71 is new 80; old 70 is new 80 where no set is served, otherwise 4 where set 0's row
 -- or its first ROM row can't be used, otherwise 70. All others are equal.
 abbrev pub partedNumber : Lent → ℕ → ℕ
 partedNumber l n =
     pick (eqb n 71) 80
-    (pick (eqb n 70) (pick (eqb (l .served) 0) 80 (pick (not (eqb (governing (l .setWords) (l .romWords) 0 .number) 0)) 4 70)) n)
+    (pick (eqb n 70) (pick (eqb (l .served) 0) 80 (pick (lacksRows (l .setWords) (l .romWords) 0) 4 70)) n)
 
 -- only an accepted read is accepted
 unparted : (l : Lent) (n : ℕ) → partedNumber l n ≡ 0 → n ≡ 0
-unparted l n e = go (eqb n 71) (eqb n 70) (eqb (l .served) 0) (not (eqb (governing (l .setWords) (l .romWords) 0 .number) 0)) e
+unparted l n e = go (eqb n 71) (eqb n 70) (eqb (l .served) 0) (lacksRows (l .setWords) (l .romWords) 0) e
   where
     go : (a b c d : Bool) → pick a 80 (pick b (pick c 80 (pick d 4 70)) n) ≡ 0 → n ≡ 0
     go true b c d h = absurd (omega arith)
@@ -48,7 +48,7 @@ module _ (flashBase cs0Base : ℕ) (l : Lent) (count : ℕ) (x : List ℕ) (addr
   abbrev oldRead : Reply
   oldRead = romRead flashBase cs0Base l count (byte 0 (SdrrAddress.Logical address levels) true) x
 
-  -- the same set governs in both
+  -- where both go by the same, they reply alike
   alike : governingOwn (l .pins .number) (l .served) (l .setWords) (l .romWords) 0 ≡ governingSet0 (l .pins .number) (l .served) (l .setWords) (l .romWords) → newRead ≡ oldRead
   alike e =
       own-as-byte flashBase cs0Base l count x 0 address levels (SdrrAddress.Logical address levels)
@@ -74,7 +74,7 @@ module _ (flashBase cs0Base : ℕ) (l : Lent) (count : ℕ) (x : List ℕ) (addr
         in-two (l .pins) (l .served) (l .setWords) (l .romWords) address levels
         ∙ ap (λ (g : GoverningSet). mangledBy g (l .pins) address levels) e ∙ not-governed (ungoverned n) (l .pins) address levels h in
         let k : physical l (SdrrAddress.Logical address levels) .number ≡ n = ap (λ (t : Mangled). t .number) m in
-        byte-unmangled flashBase cs0Base l count x 0 address levels (SdrrAddress.Logical address levels) inside (λ (z : physical l (SdrrAddress.Logical address levels) .number ≡ 0). h (sym k ∙ z))
+        byte-unmangled flashBase cs0Base l count x 0 (SdrrAddress.Logical address levels) inside (λ (z : physical l (SdrrAddress.Logical address levels) .number ≡ 0). h (sym k ∙ z))
         ∙ ap (λ (t : ℕ). refusedReply t count) k
 
     new-refused : (n : ℕ) → ownPhysical l 0 address levels ≡ unmangled n → (n ≡ 0 → ⊥) → newRead ≡ refusedReply n count
@@ -106,7 +106,7 @@ module _ (flashBase cs0Base : ℕ) (l : Lent) (count : ℕ) (x : List ℕ) (addr
           (λ i. rw i (new-refused inside 80 (leads-80 l 0 address levels (none (eqb-true (l .served) 0 i))) (λ (z : _≡_ {A = ℕ} 80 0). omega arith)))
           (λ i.
           let there = some (eqb-false (l .served) 0 i) in
-          rw i
+          rw (i, ← (lacks-rows (l .setWords) (l .romWords) 0))
           (cases (eqb (governing (l .setWords) (l .romWords) 0 .number) 0)
           (λ j. rw j (new-refused inside 70 (leads-70 l 0 address levels there (eqb-true _ 0 j) pins) (λ (z : _≡_ {A = ℕ} 70 0). omega arith)))
           (λ j. rw j (new-refused inside 4 (leads-4 l 0 address levels there (eqb-false _ 0 j)) (λ (z : _≡_ {A = ℕ} 4 0). omega arith))))))

@@ -14,10 +14,11 @@ use Rattle.window.specs.Window.{baseAfter, beyondWindow}
 use Rattle.prog.specs.Prog.{mapP, run}
 use Rattle.prog.specs.Laws.Run.{run-done, run-map}
 use Rattle.mangle.specs.declared.Mangled.{Mangled}
+use Rattle.governing.specs.Laws.{Governs}
 use Rattle.info.specs.declared.SdrrAddress.{SdrrAddress}
 use Rattle.info.specs.Lent.{Lent}
 use Rattle.info.specs.Reads.{noBytes, byte, own, physical, ownPhysical, byteP, storedP, finished, readP, Reply, readReply, romRead}
-use Rattle.info.specs.Laws.Like.{own-accepted}
+use Rattle.info.specs.Laws.Steps.{own-accepted}
 use Rattle.info.specs.Laws.Calls.{refusedReply, read-beyond}
 use Rattle.byte_reads.specs.declared.ByteRead.{ByteRead}
 use Rattle.byte_reads.specs.Calls.{byteOf}
@@ -26,40 +27,45 @@ use Rattle.byte_reads.specs.Laws.Steps.{stored-unmangled, byte-raw, byte-demang
 
 module _ (flashBase cs0Base : ℕ) (l : Lent) (count : ℕ) (x : List ℕ) (set : ℕ) where
   -- the demangled byte at an address that mangling has led to, whatever governed it
-  through : SdrrCsSet → ℕ → Mangled → Reply
-  through levels address m =
+  through : Mangled → Reply
+  through m =
+      let r = byte set (SdrrAddress.Raw 0) true in
       pick (beyondWindow flashBase cs0Base x) (refusedReply 1 count)
-      (readReply count (own set address levels) (run (mapP (finished l count (own set address levels)) (byteP (baseAfter flashBase cs0Base (l .line)) l set m)) x))
+      (readReply count r (run (mapP (finished l count r) (byteP (baseAfter flashBase cs0Base (l .line)) l set m)) x))
 
-  through-refused : (levels : SdrrCsSet) (address : ℕ) (m : Mangled) → beyondWindow flashBase cs0Base x ≡ false → (m .number ≡ 0 → ⊥)
-      → through levels address m ≡ refusedReply (m .number) count
+  through-refused : (m : Mangled) → beyondWindow flashBase cs0Base x ≡ false → (m .number ≡ 0 → ⊥) → through m ≡ refusedReply (m .number) count
   unfolding through finished
-  through-refused levels address m inside h =
-      let base = baseAfter flashBase cs0Base (l .line) in
-      let r = own set address levels in
+  through-refused m inside h =
+      let r = byte set (SdrrAddress.Raw 0) true in
       let e = ne-eqb (m .number) 0 h in
-      rw inside (ap (readReply count r) (run-map x (finished l count r) (byteP base l set m)) ∙ rw (e, run-done x (noBytes (m .number))) (simp e))
+      rw inside
+      (ap (readReply count r) (run-map x (finished l count r) (byteP (baseAfter flashBase cs0Base (l .line)) l set m))
+      ∙ rw (e, run-done x (noBytes (m .number))) (simp e))
 
-  module _ (address : ℕ) (levels : SdrrCsSet) where
-    own-through : romRead flashBase cs0Base l count (own set address levels) x ≡ through levels address (ownPhysical l set address levels)
-    unfolding through romRead readP storedP
-    own-through = refl
-
-    byte-through : (a : SdrrAddress) → romRead flashBase cs0Base l count (byte set a true) x ≡ through levels address (physical l a)
+  module _ (a : SdrrAddress) where
+    byte-through : romRead flashBase cs0Base l count (byte set a true) x ≡ through (physical l a)
     unfolding through romRead readP storedP finished
-    byte-through a = refl
+    byte-through = refl
 
     -- the old read, where its mangling is refused
-    pub byte-unmangled : (a : SdrrAddress) → beyondWindow flashBase cs0Base x ≡ false → (physical l a .number ≡ 0 → ⊥)
+    pub byte-unmangled : beyondWindow flashBase cs0Base x ≡ false → (physical l a .number ≡ 0 → ⊥)
         → romRead flashBase cs0Base l count (byte set a true) x ≡ refusedReply (physical l a .number) count
-    byte-unmangled a inside h = byte-through a ∙ through-refused levels address (physical l a) inside h
+    byte-unmangled inside h = byte-through ∙ through-refused (physical l a) inside h
+
+  module _ (address : ℕ) (levels : SdrrCsSet) where
+    own-through : romRead flashBase cs0Base l count (own set address levels) x ≡ through (ownPhysical l set address levels)
+    unfolding through romRead readP storedP finished
+    own-through = refl
 
     -- where both manglings lead alike, both reads reply alike
     pub own-as-byte : (a : SdrrAddress) → ownPhysical l set address levels ≡ physical l a
         → romRead flashBase cs0Base l count (own set address levels) x ≡ romRead flashBase cs0Base l count (byte set a true) x
-    own-as-byte a e = own-through ∙ ap (through levels address) e ∙ sym (byte-through a)
+    own-as-byte a e = own-through ∙ ap through e ∙ sym (byte-through a)
 
     module _ (m : Mangled) (mangled : m ≡ ownPhysical l set address levels) where
+      pub accepted : m .number ≡ 0 → Governs (l .pins .number) (l .served) (l .setWords) (l .romWords) set
+      accepted e = own-accepted (l .pins) (l .served) (l .setWords) (l .romWords) set address levels (ap (λ (t : Mangled). t .number) (sym mangled) ∙ e)
+
       -- an accepted mangling leads to an offset: the reply is that of the demangled read there
       pub own-at-offset : m .number ≡ 0
           → romRead flashBase cs0Base l count (own set address levels) x ≡ romRead flashBase cs0Base l count (byte set (SdrrAddress.Raw (m .value)) true) x
@@ -69,7 +75,7 @@ module _ (flashBase cs0Base : ℕ) (l : Lent) (count : ℕ) (x : List ℕ) (set 
       -- a refused one is the reply
       pub own-unmangled : beyondWindow flashBase cs0Base x ≡ false → (m .number ≡ 0 → ⊥)
           → romRead flashBase cs0Base l count (own set address levels) x ≡ refusedReply (m .number) count
-      own-unmangled inside h = own-through ∙ ap (through levels address) (sym mangled) ∙ through-refused levels address m inside h
+      own-unmangled inside h = own-through ∙ ap through (sym mangled) ∙ through-refused m inside h
 
       -- as the code has it: by the address as it has mangled it, the byte that stands there, and that demangled
       module _ (raw : ByteRead) (stored : raw ≡ byteAt flashBase cs0Base (l .line) (l .served) (l .setWords) set m count x)
@@ -89,7 +95,7 @@ module _ (flashBase cs0Base : ℕ) (l : Lent) (count : ℕ) (x : List ℕ) (set 
         accepted-alike e =
             let a = SdrrAddress.Raw (m .value) in
             let pins : shownFrom 0 (l .pins .«data») raw count ≡ shownFrom (l .pins .number) (l .pins .«data») raw count =
-            ap (λ (n : ℕ). shownFrom n (l .pins .«data») raw count) (sym (own-accepted l set address levels (ap (λ (t : Mangled). t .number) (sym mangled) ∙ e))) in
+            ap (λ (n : ℕ). shownFrom n (l .pins .«data») raw count) (sym (accepted e .accepted-pins)) in
             let first = byte-raw flashBase cs0Base l count x set a m (ap (λ (n : ℕ). record { number = n; value = m .value }) e) raw stored in
             byte-demangled flashBase cs0Base l count x set a raw first r (shown ∙ pins) ∙ sym (ap byteOf (own-at-offset e))
 

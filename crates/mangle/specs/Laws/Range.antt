@@ -1,4 +1,4 @@
--- Document 01, "Mangling": its numbers are 72 to 78.
+-- Document 01, "Mangling": the numbers that it refuses with are 72 to 78.
 -- Assumes nothing.
 use Prim.Native.Nat.{ℕ, _≤_}
 use native.Mathlib.Omega.{arith}

@@ -25,6 +25,8 @@ NO_PIN = 255
 # ROM types by their numbers, and how many bytes a ROM of the type has.
 ROM_2316, ROM_2332, ROM_2364, ROM_27256 = 0, 1, 2, 12
 BYTES = {ROM_2316: 2048, ROM_2332: 4096, ROM_2364: 8192, ROM_27256: 32768}
+# The sets that were made, by all that decides their bytes.
+SETS = {}
 # Chip-select states.
 LOW, HIGH, UNUSED = 0, 1, 2
 
@@ -88,6 +90,14 @@ class Pins:
         return None
 
     def set_data(self, rom_set):
+        """The set as it is stored. It is made once: most boards of the tests differ elsewhere."""
+        roms = tuple((rom.name, rom.kind) for rom in rom_set.roms)
+        key = tuple(self.data), tuple(self.addr), self.cs[0], self.x, roms, rom_set.size
+        if key not in SETS:
+            SETS[key] = self.made_data(rom_set)
+        return SETS[key]
+
+    def made_data(self, rom_set):
         texts = {rom: rom.text() for rom in rom_set.roms}
         data = bytearray([0xFF] * rom_set.size)
         for offset in range(rom_set.size):

@@ -56,14 +56,15 @@ def columns(at):
     for file in [SAMPLE, "samples/stm32.img", "samples/multi.img", "samples/mixed.img", "samples/damaged.img", "none", "made"] + ["made/" + name for name in made()]:
         for words in ([], ["raw", "9"], ["byte", "0", "0"], ["byte", "0", "4294967295"], ["byte", "4294967295", "0"]):
             fits(at, [file, *words])
-            if "byte" in words:
+            if "byte" in words and not file.startswith("made"):
                 fits(at, [file, *words, "--by-set-0"])
-    images = [image for _, image in refused_openings()] + [image for _, _, image in refused_items()] + wide_numbers() + several_kinds()
+    kinds = several_kinds()
+    images = [image for _, image in refused_openings()] + [image for _, _, image in refused_items()] + wide_numbers() + kinds
     for image in images:
         fits(at, [put(at, "w", image)])
     for _, image, words in refused_reads():
         fits(at, [put(at, "w", image), *words])
-    many = put(at, "w", several_kinds()[1])
+    many = put(at, "w", kinds[1])
     for words in (["byte", "254", "0"], ["byte", "254", "4294967295"]):
         fits(at, [many, *words])
         fits(at, [many, *words, "--by-set-0"])

@@ -53,7 +53,7 @@ def damaged_boards(at):
             seed = (seed * 6364136223846793005 + 1442695040888963407) % 2**64
             image[512 + (seed >> 33) % 1100] = seed >> 56
         file = put(at, "hurt.img", bytes(image[: len(image) if k % 3 else 600 + 97 * k]))
-        for words in ([], ["read", "0"], ["raw", "1"], ["byte", "1", "3"], ["byte", "1", "3", "--by-set-0"]):
+        for words in ([], ["read", "0"], ["raw", "1"], ["byte", "1", "3"] + ["--by-set-0"] * (k // 5 % 2)):
             out, err = run(at, file, *words)
             expect((out == b"") == (err != b"") or (words[:1] == ["raw"] and err == b""), "damaged board %d, %r" % (k, words))
             expect(err.count(b"\n") <= 2, "damaged board %d, %r: two lines at most" % (k, words))

@@ -1,4 +1,5 @@
 """What read, raw and byte give is the ROMs' text; also of boards at other bases and offsets."""
+import functools
 import re
 
 import make
@@ -19,12 +20,14 @@ def read_byte(at, file, i, address, levels, rom):
     same(raw[int(got["stored.offset"])], int(got["stored.byte"]), "stored byte of %s" % rom.name)
 
 
-def offset_of(board, by, address, high):
-    """A number, and where a set's byte at an address is stored by the ROM count and first type of set `by`; `high` names the lines that are."""
-    pins, roms = board.pins, board.sets[by].roms
+@functools.cache
+def offsets_of(name, roms, kind, high):
+    """Of every address of a type a number, and where its byte is stored by that type and a ROM count; `high` names the lines that are."""
+    pins = dict(BOARDS)[name].pins
     addr = [pins.on_board(p) for p in pins.addr] + [make.NO_PIN] * (16 - len(pins.addr))
     control = dict(zip(CONTROLS, map(pins.on_board, (*pins.cs, *pins.x, pins.ce, pins.oe))))
-    return core(pins.rom_pins, addr, control, len(roms), roms[0].kind, address, [line in high for line in LINES])
+    levels = [line in high for line in LINES]
+    return [core(pins.rom_pins, addr, control, roms, kind, address, levels) for address in range(TYPES[kind][0] + 1)]
 
 
 def one_read(at, name, board, i, is_old, high):
@@ -32,7 +35,7 @@ def one_read(at, name, board, i, is_old, high):
     by, words = (0 if is_old else i), [",".join(line + "=1" for line in high) or "low"] + ([BY_SET_0] if is_old else [])
     file, what = "samples/%s.img" % name, "%s set %d, %s" % (name, i, " ".join(words))
     stored, shown = board.pins.set_data(board.sets[i]), {board.pins.stored(byte): byte for byte in range(256)}
-    offsets = [offset_of(board, by, address, high) for address in range(TYPES[board.sets[by].roms[0].kind][0] + 1)]
+    offsets = offsets_of(name, len(board.sets[by].roms), board.sets[by].roms[0].kind, high)
     number = next((n or 81 for n, offset in offsets if n or offset >= len(stored)), 0)
     if number:
         refused_whole(at, number, words_of_numbers()[number], file, "read", str(i), *words)
@@ -45,10 +48,11 @@ def one_read(at, name, board, i, is_old, high):
 
 
 def by_either(at):
-    """Every set of every sample, by its own ROMs and by set 0's, with several levels."""
+    """Every set of every sample, by its own ROMs and by set 0's, with several levels; of 28-pin types no chip select has an input bit."""
     for name, board in BOARDS:
         for i in range(len(board.sets)):
-            for high in ((), ("cs1",), ("cs2",), ("x1",), ("cs1", "x2")):
+            is_wide = TYPES[board.sets[i].roms[0].kind][0] > 8191
+            for high in ((), ("cs1", "x2")) if is_wide else ((), ("cs1",), ("cs2",), ("x1",), ("cs1", "x2")):
                 one_read(at, name, board, i, False, high)
                 one_read(at, name, board, i, True, high)
 

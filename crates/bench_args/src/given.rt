@@ -1,14 +1,14 @@
 // What of a request the library's calls take.
+ghost use Rattle.std.specs.Prelude.{◌≡◌};
+
 use crate::Request;
-use types::Level;
-use types::SdrrCsSet;
+use types::{Level, SdrrCsSet};
 use window::Settings;
-ghost use mathlib.Core.Path.{_≡_};
 
 pub fn settings(request: Request) -> Settings
-    ensures { λ r. ⌜ r .«flash_base» ≡ request .«flash_base» ⌝ }
-    ensures { λ r. ⌜ r .«cs0_base» ≡ request .«cs0_base» ⌝ }
-    ensures { λ r. ⌜ r .«info_offset» ≡ request .«info_offset» ⌝ }
+    ensures flash_base_value { result.flash_base ≡ request.flash_base }
+    ensures cs0_base_value { result.cs0_base ≡ request.cs0_base }
+    ensures info_offset_value { result.info_offset ≡ request.info_offset }
 {
     Settings {
         flash_base: request.flash_base,

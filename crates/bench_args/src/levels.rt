@@ -27,11 +27,8 @@ pub(crate) fn parse(word: &[u8]) -> u16 {
         return 0;
     }
     let mut levels = 0;
-    let mut at: usize = 0;
-    while at <= word.len() {
-        let end = words::part_end(word, at, b',');
-        levels = with_piece(levels, &word[at..end]);
-        at = end + 1;
+    for piece in word.split(|b| *b == b',') {
+        levels = with_piece(levels, piece);
     }
     levels
 }

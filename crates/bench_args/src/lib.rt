@@ -1,7 +1,12 @@
 // The command line of the bench. Options may stand anywhere before --; the words are [FILE] or FILE COMMAND SET [ADDRESS] [LEVELS].
+#![tactic(auto)]
+
 pub mod given; // for the library
 mod levels; // LEVELS
 mod words; // words and numbers
+
+use std::env::FillError;
+use std::rt::Env;
 
 // Commands.
 pub const READ: u8 = 0;
@@ -27,24 +32,27 @@ const LEVELS: u8 = 4;
 
 const NOTHING: u8 = 5;
 
-// Options, by their place in the table: the first three want a number, --sample a file; 255 is none.
+// Options, by their place in the table: the first three want a number, --sample and --link a file; 255 is none.
 const SAMPLE: u8 = 3;
 
-const MACHINE: u8 = 4;
+const LINK: u8 = 4;
 
-const STATUS: u8 = 5;
+const MACHINE: u8 = 5;
 
-const BY_SET_0: u8 = 6;
+const STATUS: u8 = 6;
 
-const VERSION: u8 = 7;
+const BY_SET_0: u8 = 7;
 
-const END: u8 = 8;
+const VERSION: u8 = 8;
+
+const END: u8 = 9;
 
 const NO_OPTION: u8 = 255;
 
 // What is asked for; or the number of a refusal, and the argument that it is about (0: none).
-// status: the exit status is to be written. by_set_0: reads go by set 0's ROMs. waiting: the option whose number or file comes next (255: none). is_ended: -- was seen.
-// file, sample, command_at: the arguments that name them (0: no FILE, so the sample; the sample that stands here; none).
+// status: who calls goes by the exit status alone. by_set_0: reads go by set 0's ROMs. waiting: the option whose number or file comes next (255: none).
+// is_ended: -- was seen. file, sample, link, command_at: the arguments that name them (0: no FILE, so the sample; the sample that stands here; none; none).
+#[derive(Clone, Copy)]
 pub struct Request {
     pub number: u8,
     pub about: usize,
@@ -60,6 +68,7 @@ pub struct Request {
     pub command_at: usize,
     pub file: usize,
     pub sample: usize,
+    pub link: usize,
     pub set: u32,
     pub address: u32,
     pub levels: u16,
@@ -84,6 +93,7 @@ fn nothing() -> Request {
         command_at: 0,
         file: 0,
         sample: 0,
+        link: 0,
         set: 0,
         address: 0,
         levels: 0,
@@ -111,6 +121,10 @@ fn take_value(request: Request, at: usize, word: &[u8]) -> Request {
     r.waiting = NO_OPTION;
     if waiting == SAMPLE {
         r.sample = at;
+        return r;
+    }
+    if waiting == LINK {
+        r.link = at;
         return r;
     }
     let n = words::to_number(word);
@@ -223,7 +237,7 @@ fn take_option(request: Request, at: usize, option: u8) -> Request {
 
 // An option and its number in one argument, as --info-offset=512. Whatever else starts with -- is no option.
 fn take_joined(request: Request, at: usize, word: &[u8]) -> Request {
-    let end = words::part_end(word, 0, b'=');
+    let end = words::mark_at(word, b'=');
     if end == word.len() {
         return stop(request, 101, at);
     }
@@ -259,20 +273,15 @@ fn take_other(request: Request, at: usize, word: &[u8]) -> Request {
 }
 
 // Behind -- there are no options.
-fn take(request: Request, at: usize) -> Request {
-    let mut space = io::buffer();
-    let n = os::arg(at, &mut space);
-    if os::errno() != 0 {
-        return stop(request, 100, 0);
-    }
+fn take(request: Request, at: usize, word: &[u8]) -> Request {
     let option = words::place(
-        &space[..n],
-        b"--flash-base|--cs0-base|--info-offset|--sample|--machine|--status|--by-set-0|--version|--|--help|-h",
+        word,
+        b"--flash-base|--cs0-base|--info-offset|--sample|--link|--machine|--status|--by-set-0|--version|--|--help|-h",
     );
     if base::both(option < NO_OPTION, !request.is_ended) {
         return take_option(request, at, option);
     }
-    take_other(request, at, &space[..n])
+    take_other(request, at, word)
 }
 
 // Nothing may be left out.
@@ -287,13 +296,16 @@ fn whole(request: Request) -> Request {
     request
 }
 
-pub fn parse() -> Request {
-    let count = os::arg_count();
+// Argument 0 is the program's name. An argument need not be text: it is taken as bytes, of which 4,096 are enough for any path.
+pub fn parse(rt: &impl Env) -> Request {
     let mut request = nothing();
-    let mut i: usize = 1;
-    while i < count {
-        request = take(request, i);
-        i += 1;
+    let mut space = [0; 4096];
+    for at in 1..usize::MAX {
+        match rt.arg(at, &mut space) {
+            Ok(n) => request = take(request, at, &space[..n]),
+            Err(FillError::TooLong) => request = stop(request, 100, 0),
+            Err(FillError::NotPresent) => break,
+        }
     }
     whole(request)
 }

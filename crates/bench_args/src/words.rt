@@ -1,35 +1,25 @@
 // A word of the command line: which of several it is, and a number in one.
-ghost use Prim.Native.Nat.{_≤_};
-ghost use lib.ListN.{length};
+ghost use Rattle.std.specs.Prelude.{◌≤◌, length};
 
 // Above every number.
 const NO_NUMBER: u64 = 4294967296;
 
-// Where the part that starts at an index ends: before the mark, or with the word.
-pub fn part_end(word: &[u8], from: usize, mark: u8) -> usize
-    requires { ⌜ from ≤ length (now word) ⌝ }
-    ensures { λ r. ⌜ (from ≤ r) × (r ≤ length (now (word .entry))) ⌝ }
+// Where the first mark stands: the word's length where there is none.
+pub fn mark_at(word: &[u8], mark: u8) -> usize
+    ensures { result ≤ length word.now }
 {
-    bytes::scan::find(word, from, word.len(), mark)
+    word.iter().position(|b| *b == mark).unwrap_or(word.len())
 }
 
 // Which entry of a table the word is: 0 for the first; 255 where it is none. Entries stand between bars.
 pub fn place(word: &[u8], table: &[u8]) -> u8 {
-    let mut at = 0;
-    let mut k = 0;
-    while k < 255 {
-        let end = part_end(table, at, b'|');
-        let is_long = word.len() == end - at;
-        if base::both(is_long, magic::starts_with(word, &table[at..end])) {
+    for (k, entry) in (0..255).zip(table.split(|b| *b == b'|')) {
+        let is_long = word.len() == entry.len();
+        if base::both(is_long, magic::starts_with(word, entry)) {
             return k;
         }
-        if end == table.len() {
-            return 255;
-        }
-        at = end + 1;
-        k += 1;
     }
-    k
+    255
 }
 
 // 255 for what is no digit.
@@ -49,7 +39,7 @@ fn digit(c: u8) -> u8 {
 
 // One digit more.
 fn grown(value: u64, base: u8, d: u8) -> u64
-    requires { ⌜ value ≤ 4294967295 ⌝ }
+    requires { value ≤ 4294967295 }
 {
     if base == 16 {
         return value * 16 + d as u64;
@@ -62,9 +52,8 @@ fn digits(word: &[u8], base: u8) -> u64 {
         return NO_NUMBER;
     }
     let mut value: u64 = 0;
-    let mut i = 0;
-    while i < word.len() {
-        let d = digit(word[i]);
+    for c in word {
+        let d = digit(*c);
         if base <= d {
             return NO_NUMBER;
         }
@@ -72,7 +61,6 @@ fn digits(word: &[u8], base: u8) -> u64 {
         if 4294967295 < value {
             return NO_NUMBER;
         }
-        i += 1;
     }
     value
 }

@@ -1,47 +1,48 @@
 // The dump: a file or standard input, read whole; and files that hold a dump in a form of their own.
-ghost use mathlib.Core.Path.{_≡_};
-ghost use lib.ListN.{length};
-ghost use Rattle·io.specs.Counts.{Counts};
+#![tactic(auto)]
 
-// Room for a dump, 2 MiB. The contract gives the length alone, so that no caller's proof computes the list.
-pub fn image_space() -> [u8; 2097152]
-    ensures { λ r. ⌜ 2097152 ≡ length r ⌝ }
+ghost use Rattle.std.specs.Prelude.{◌≡◌, ◌≤◌, length, vec_len, IfOk};
+
+use std::alloc::{AllocError, Global};
+use std::fs::File;
+use std::io::{Error, ErrorKind, Input, Read};
+use std::rt::{Env, Files};
+use std::str;
+
+// Room for a dump, 2 MiB: on the heap, since the stack need not have as much.
+pub fn image_space(alloc: Global) -> Result<Vec<u8>, AllocError>
+    ensures { IfOk result (λ image. 2097152 ≡ vec_len image) }
 {
-    [0; 2097152]
+    vec![in alloc; 0; 2097152]
 }
 
 // 0 and how many bytes there are; or 108 to 111: why it can't be opened or read, 112: it is too large, or the number of its form.
+#[derive(Clone, Copy)]
 pub struct Loaded {
     pub number: u8,
     pub length: usize,
 }
 
-// Argument `at` as a file; - is standard input. 0: the sample, as it stands from the top on.
-fn open(at: usize) -> i32 {
-    if at == 0 {
-        return os::open_read(b"samples/rp2350.img");
+// The number of a dump that cannot be read, for no reason that has a number of its own.
+pub const UNREADABLE: u8 = 111;
+
+// Why a call failed.
+fn why(error: Error) -> u8 {
+    match error.kind() {
+        ErrorKind::NotFound => 108,
+        ErrorKind::IsADirectory => 109,
+        ErrorKind::PermissionDenied => 110,
+        _ => UNREADABLE,
     }
-    let mut space = io::buffer();
-    let n = os::arg(at, &mut space);
-    if base::both(n == 1, space[0] == b'-') {
-        return libc::STDIN_FILENO;
-    }
-    os::open_read(&space[..n])
 }
 
-// Why a call failed just now.
-fn why() -> u8 {
-    let error = os::errno();
-    if error == libc::ENOENT {
-        return 108;
+fn failed(error: Error) -> Loaded
+    ensures { result.length ≡ 0 }
+{
+    Loaded {
+        number: why(error),
+        length: 0,
     }
-    if error == libc::EISDIR {
-        return 109;
-    }
-    if error == libc::EACCES {
-        return 110;
-    }
-    111
 }
 
 // 117 for a UF2 file, 118 for an ELF file, which both hold a dump in parts; the number that is given for any other.
@@ -56,48 +57,84 @@ pub fn form_number(image: &[u8], other: u8) -> u8 {
 }
 
 // What follows what was read: 0 at the end of the file.
-fn after(fd: i32, image: &[u8]) -> u8 {
-    let mut one = [0u8; 1];
-    let got = libc::read(fd, &mut one);
-    if got < 0 {
-        return why();
+fn after<R: Read>(from: &mut R, image: &[u8]) -> u8 {
+    let mut one = [0; 1];
+    match from.read(&mut one) {
+        Ok(0) => 0,
+        Ok(_) => form_number(image, 112),
+        Err(error) => why(error),
     }
-    if got > 0 {
-        return form_number(image, 112);
-    }
-    0
 }
 
-// The first read by itself, since read_full does not tell a failure from the end.
-fn read_all(fd: i32, image: &mut [u8]) -> Loaded
-    ensures { λ r. ⌜ Counts (r .length) (now (image .exit)) ⌝ }
+fn read_all<R: Read>(from: &mut R, image: &mut [u8]) -> Loaded
+    ensures { result.length ≤ length image.new }
 {
-    let got = libc::read(fd, image);
-    if got < 0 {
-        return Loaded {
-            number: why(),
-            length: 0,
-        };
+    let mut length = 0;
+    while length < image.len() {
+        match from.read(&mut image[length..]) {
+            Ok(0) => return Loaded { number: 0, length },
+            Ok(n) => length += n,
+            Err(error) => return failed(error),
+        }
     }
-    let n = io::count(got, image);
-    let more = io::read_full(fd, &mut image[n..]);
     Loaded {
-        number: after(fd, image),
-        length: n + more,
+        number: after(from, image),
+        length,
     }
 }
 
-// Reads the file that argument `file` names, or the sample where that is 0, which argument `sample` names unless it is 0 too.
-pub fn load(file: usize, sample: usize, image: &mut [u8]) -> Loaded
-    ensures { λ r. ⌜ Counts (r .length) (now (image .exit)) ⌝ }
+fn read_path<R: Files>(rt: &R, path: &str, image: &mut [u8]) -> Loaded
+    ensures { result.length ≤ length image.new }
+{
+    match File::open(rt, path) {
+        Ok(mut file) => read_all(&mut file, image),
+        Err(error) => failed(error),
+    }
+}
+
+// An argument as a path; nothing where it is none (0), or no text, which a path has to be.
+fn path_of<'a, R: Env>(rt: &R, at: usize, space: &'a mut [u8]) -> Option<&'a str> {
+    if at == 0 {
+        return None;
+    }
+    let n = rt.arg(at, space).unwrap_or(0);
+    str::from_utf8(&space[..n]).ok()
+}
+
+fn read_link<R: Files + Env>(rt: &R, link: usize, image: &mut [u8]) -> Loaded
+    ensures { result.length ≤ length image.new }
+{
+    let mut space = [0; 4096];
+    match path_of(rt, link, &mut space) {
+        Some(path) => read_path(rt, path, image),
+        None => Loaded {
+            number: UNREADABLE,
+            length: 0,
+        },
+    }
+}
+
+// Reads the file that argument `file` names, or the sample where that is 0, which argument `sample` names unless it is 0 too: then it is looked for
+// from the folder that the program is run in. A name that is no text can't be opened: in its place the link is that argument `link` names.
+pub fn load<R: Files + Input + Env>(
+    rt: &R,
+    file: usize,
+    sample: usize,
+    link: usize,
+    image: &mut [u8],
+) -> Loaded
+    ensures { result.length ≤ length image.new }
 {
     let at = if file == 0 { sample } else { file };
-    let fd = open(at);
-    if fd < 0 {
-        return Loaded {
-            number: why(),
-            length: 0,
-        };
+    if at == 0 {
+        return read_path(rt, "samples/rp2350.img", image);
     }
-    read_all(fd, image)
+    let mut space = [0; 4096];
+    let Some(path) = path_of(rt, at, &mut space) else {
+        return read_link(rt, link, image);
+    };
+    if path == "-" {
+        return read_all(&mut rt.reader(), image);
+    }
+    read_path(rt, path, image)
 }

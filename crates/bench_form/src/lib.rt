@@ -6,12 +6,15 @@
 //   %a a chip-select state in one word              %e, %h what a comparison shows, for a person and for a script
 //   %_ nothing: the number is passed over           %0, %1 the first number and the second, decimal, once more
 //   %g ", by set 0" for 1, nothing for 0
+#![tactic(auto)]
+
 mod names;
 mod table;
 
+ghost use Rattle.std.specs.Prelude.{◌+◌, ◌≤◌, ◌<◌};
+
 use bench_out::Out;
 use table::part;
-ghost use Prim.Native.Nat.{_+_, _≤_, _<_};
 
 // A number past the end of the list is 0.
 fn number_at(numbers: &[u32], k: usize) -> u32 {
@@ -37,8 +40,8 @@ fn put(out: &mut Out, letter: u8, n: u32) {
 
 // What a mark with this letter stands for, where number k is the next. Which is the next behind it.
 fn marked(out: &mut Out, letter: u8, numbers: &[u32], k: usize) -> usize
-    requires { ⌜ k < 18446744073709551615 ⌝ }
-    ensures { λ r. ⌜ r ≤ k + 1 ⌝ }
+    requires { k < 18446744073709551615 }
+    ensures { result ≤ k + 1 }
 {
     if letter == b'0' {
         bench_out::number(out, number_at(numbers, 0));

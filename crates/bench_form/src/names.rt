@@ -9,8 +9,11 @@ fn cell(out: &mut Out, table: &[u8], row: u32, n: u32) {
 
 // Entry n of a letter's row. The first row has the letters of the rows behind it, in their order.
 fn lettered(out: &mut Out, table: &[u8], letter: u8, n: u32) {
-    let at = bytes::scan::find(table, 0, table.len(), letter);
-    cell(out, table, (at % 4294967295) as u32 + 1, n);
+    let letters = part(table, b'\n', 0);
+    let at = letters.iter().position(|b| *b == letter);
+    if let Some(at) = at {
+        cell(out, table, (at % 4294967295) as u32 + 1, n);
+    }
 }
 
 // The letters of a form that stand for a name: t a ROM type, l a line, k a storage code, K its KiB, p a port, c and a a chip-select state, o and f a

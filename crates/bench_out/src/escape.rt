@@ -1,11 +1,9 @@
 // Text from the dump or the command line, so that it stays on its line and shows what it is: control characters and backslashes go out as \x and
 // two digits, and so does a byte that is no part of UTF-8; marks that are not seen or turn the line's direction as \u and four.
-use crate::Out;
-use crate::byte;
-use crate::hex_digits;
-use crate::text;
-ghost use Prim.Native.Nat.{_+_, _≤_, _<_};
-ghost use lib.ListN.{length};
+ghost use Rattle.std.specs.Prelude.{◌+◌, ◌≤◌, ◌<◌, length};
+
+use crate::{Out, byte, hex_digits, text};
+use std::rt::Env;
 
 fn escaped(out: &mut Out, b: u8) {
     text(out, b"\\x");
@@ -71,7 +69,7 @@ fn two(out: &mut Out, c: &[u8], a: u8, b: u8) {
 
 // How many bytes a character has by its first.
 fn length_by(b: u8) -> usize
-    ensures { λ r. ⌜ 1 ≤ r ⌝ }
+    ensures { 1 ≤ result }
 {
     match b {
         0xC2..=0xDF => 2,
@@ -83,8 +81,8 @@ fn length_by(b: u8) -> usize
 
 // How many bytes the character at an index has; 1 where there is none.
 fn width(s: &[u8], at: usize) -> usize
-    requires { ⌜ at < length (now s) ⌝ }
-    ensures { λ r. ⌜ (1 ≤ r) × (at + r ≤ length (now (s .entry))) ⌝ }
+    requires { at < length s.now }
+    ensures { (1 ≤ result) × (at + result ≤ length s.now) }
 {
     let n = length_by(s[at]);
     if s.len() - at < n {
@@ -112,7 +110,7 @@ pub fn file_name(out: &mut Out, at: usize) {
         text(out, b"samples/rp2350.img");
         return;
     }
-    let mut space = io::buffer();
-    let n = os::arg(at, &mut space);
+    let mut space = [0; 4096];
+    let n = out.rt.arg(at, &mut space).unwrap_or(0);
     shown(out, &space[..n]);
 }

@@ -1,110 +1,104 @@
-// What the bench says, on a descriptor: gathered, and written in few calls. Every write's result is looked at, and after one that failed nothing
-// more is written, so that an output has no hole.
+// What the bench says, on standard output or standard error: gathered, and written in few calls. Every write's result is looked at, and after one that
+// failed nothing more is written, so that an output has no hole.
+#![tactic(auto)]
+
 mod write;
 mod escape; // text from outside
 
-pub use escape::character;
-pub use escape::file_name;
-pub use escape::shown;
-ghost use Rattle·io.specs.Counts.{Counts};
+ghost use Rattle.std.specs.Prelude.{◌≤◌};
 
-// The descriptor, whether a write failed (1), the place of the next byte in two bytes, whether a script reads it (1); then room for 16,384 bytes.
-pub type Out = [u8; 16389];
+pub use escape::{character, file_name, shown};
+use std::fmt;
+use std::fmt::Write;
 
-const FIRST: usize = 5;
+#[derive(Clone, Copy)]
+pub enum Stream {
+    Output,
+    Error,
+}
 
-const END: usize = 16389;
+const ROOM: usize = 16384;
 
-// An output on a descriptor, with nothing in it, for a person or a script.
-pub fn to(descriptor: u8, is_script: bool) -> Out {
-    let mut out = [0; 16389];
-    out[0] = descriptor;
-    out[2] = 5;
-    out[4] = is_script as u8;
-    out
+// is_script: whether a script reads it. is_whole: every write so far took all that it was given. What is gathered: the room's first bytes, so many.
+#[derive(Drop)]
+pub struct Out {
+    rt: HostRuntime,
+    stream: Stream,
+    is_script: bool,
+    is_whole: bool,
+    count: usize,
+    room: [u8; ROOM],
+    ghost within: { count ≤ 16384 },
+}
+
+// An output with nothing in it, for a person or a script.
+pub fn to(rt: HostRuntime, stream: Stream, is_script: bool) -> Out {
+    Out {
+        rt,
+        stream,
+        is_script,
+        is_whole: true,
+        count: 0,
+        room: [0; ROOM],
+    }
 }
 
 pub fn is_script(out: &Out) -> bool {
-    out[4] == 1
-}
-
-fn joined(low: u8, high: u8) -> usize {
-    low as usize + high as usize * 256
-}
-
-fn place(out: &Out) -> usize {
-    joined(out[2], out[3])
-}
-
-fn set_place(out: &mut Out, at: usize) {
-    out[2] = (at % 256) as u8;
-    out[3] = (at / 256 % 256) as u8;
+    out.is_script
 }
 
 // Whether every write so far took all that it was given.
 pub fn is_whole(out: &Out) -> bool {
-    out[1] == 0
-}
-
-fn note(out: &mut Out, is_written: bool) {
-    if !is_written {
-        out[1] = 1;
-    }
+    out.is_whole
 }
 
 // Writes what is gathered.
 pub fn flush(out: &mut Out) {
-    let end = place(out);
-    set_place(out, FIRST);
-    if is_whole(out) {
-        let is_written = write::gathered(out[0], out, end);
-        note(out, is_written);
+    let count = out.count;
+    out.count = 0;
+    if out.is_whole {
+        out.is_whole = write::whole(out.rt, out.stream, &out.room[..count]);
     }
 }
 
 // Writes many bytes as they stand, in as few calls as there can be.
 pub fn bytes(out: &mut Out, many: &[u8]) {
     flush(out);
-    if is_whole(out) {
-        let is_written = write::whole(out[0], many);
-        note(out, is_written);
-    }
-}
-
-fn gather(out: &mut Out, b: u8) {
-    let at = place(out);
-    if at < END {
-        out[at] = b;
-        set_place(out, at + 1);
+    if out.is_whole {
+        out.is_whole = write::whole(out.rt, out.stream, many);
     }
 }
 
 pub fn byte(out: &mut Out, b: u8) {
-    if END <= place(out) {
+    if out.count == ROOM {
         flush(out);
     }
-    gather(out, b);
+    if out.count < ROOM {
+        out.room[out.count] = b;
+        out.count += 1;
+    }
 }
 
 pub fn text(out: &mut Out, words: &[u8]) {
-    let mut i = 0;
-    while i < words.len() {
-        byte(out, words[i]);
-        i += 1;
+    for b in words {
+        byte(out, *b);
+    }
+}
+
+impl fmt::Write for Out {
+    fn write_str(&mut self, s: &str) -> fmt::Result {
+        text(self, s.as_bytes());
+        Ok(())
     }
 }
 
 pub fn number(out: &mut Out, n: u32) {
-    let mut digits = [0u8; 20];
-    let k = io::decimal(n as u64, &mut digits);
-    text(out, &digits[..k]);
+    let _ = write!(out, "{n}");
 }
 
 // So many hexadecimal digits.
 fn hex_digits(out: &mut Out, n: u32, count: usize) {
-    let mut digits = [0u8; 16];
-    let k = io::hex(n as u64, count, &mut digits);
-    text(out, &digits[..k]);
+    let _ = write!(out, "{n:0count$x}");
 }
 
 // 0x and so many digits.

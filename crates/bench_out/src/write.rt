@@ -1,81 +1,91 @@
-// Writing on a descriptor. Every result is looked at: a short write is continued, an interrupted one is made again.
-ghost use Prim.Native.Nat.{_≤_};
-ghost use lib.ListN.{length};
+// Writing on a stream. Every result is looked at: a short write is continued, an interrupted one is made again.
+ghost use Rattle.std.specs.Prelude.{◌≤◌, length, IfOk};
 
-// One write: how many of the bytes it took, 0 where it failed. One that a signal interrupts is made again, some times.
-fn once(to: i32, bytes: &[u8]) -> usize
-    ensures { λ r. ⌜ r ≤ length (now (bytes .entry)) ⌝ }
+use crate::Stream;
+use std::fs::File;
+use std::io::{Error, ErrorKind, Result, Write};
+
+// One write: how many of the bytes it took. One that a signal interrupts is made again, some times.
+fn once<W: Write>(to: &mut W, bytes: &[u8]) -> Result<usize>
+    ensures { IfOk result (λ n. n ≤ length bytes.now) }
 {
-    let mut left: u8 = 255;
-    while 0 < left {
-        let got = libc::write(to, bytes);
-        if 0 <= got {
-            return io::count(got, bytes);
+    for _ in 0..255 {
+        match to.write(bytes) {
+            Ok(n) => return Ok(n),
+            Err(error) => {
+                if error.kind() != ErrorKind::Interrupted {
+                    return Err(error);
+                }
+            }
         }
-        if os::errno() != libc::EINTR {
-            return 0;
-        }
-        left -= 1;
     }
-    0
+    Err(Error::from(ErrorKind::Interrupted))
 }
 
-// Writes the bytes, or stops where a write fails. How many were written.
-fn many(to: i32, bytes: &[u8]) -> usize
-    ensures { λ r. ⌜ r ≤ length (now (bytes .entry)) ⌝ }
-{
-    let mut at = 0;
-    while at < bytes.len() {
-        let n = once(to, &bytes[at..]);
-        if n == 0 {
-            return at;
-        }
-        at += n;
-    }
-    at
+// How many bytes were written; and whether a write was refused that may be waited for.
+#[derive(Clone, Copy)]
+struct Written {
+    count: usize,
+    is_early: bool,
 }
 
-// Another descriptor for an output, or -1. Writes on it wait, though those on the output itself may not.
-fn that_waits(to: u8) -> i32 {
-    if to == 1 {
-        return os::open_append(b"/proc/self/fd/1");
+// Writes the bytes, or stops where a write fails.
+fn many<W: Write>(to: &mut W, bytes: &[u8]) -> Written
+    ensures { result.count ≤ length bytes.now }
+{
+    let mut count = 0;
+    while count < bytes.len() {
+        match once(to, &bytes[count..]) {
+            Ok(0) => {
+                return Written {
+                    count,
+                    is_early: false,
+                };
+            }
+            Ok(n) => count += n,
+            Err(error) => {
+                let is_early = error.kind() == ErrorKind::WouldBlock;
+                return Written { count, is_early };
+            }
+        }
     }
-    if to == 2 {
-        return os::open_append(b"/proc/self/fd/2");
+    Written {
+        count,
+        is_early: false,
     }
-    -1
+}
+
+fn many_on(rt: HostRuntime, stream: Stream, bytes: &[u8]) -> Written
+    ensures { result.count ≤ length bytes.now }
+{
+    match stream {
+        Stream::Output => many(&mut rt.stdout(), bytes),
+        Stream::Error => many(&mut rt.stderr(), bytes),
+    }
+}
+
+// The stream, opened anew. Writes on it wait, though those on the stream itself may not.
+fn that_waits(rt: HostRuntime, stream: Stream) -> Result<File> {
+    let path = match stream {
+        Stream::Output => "/proc/self/fd/1",
+        Stream::Error => "/proc/self/fd/2",
+    };
+    File::options().append(true).open(&rt, path)
 }
 
 // Writes what a pipe that does not wait refused just now.
-fn patiently(to: u8, bytes: &[u8]) -> bool {
-    let again = that_waits(to);
-    if again < 0 {
-        return false;
+fn patiently(rt: HostRuntime, stream: Stream, bytes: &[u8]) -> bool {
+    match that_waits(rt, stream) {
+        Ok(mut again) => many(&mut again, bytes).count == bytes.len(),
+        Err(_) => false,
     }
-    let n = many(again, bytes);
-    libc::close(again);
-    n == bytes.len()
 }
 
 // Whether all of the bytes were written.
-pub(crate) fn whole(to: u8, bytes: &[u8]) -> bool {
-    let n = many(to as i32, bytes);
-    if n == bytes.len() {
-        return true;
+pub(crate) fn whole(rt: HostRuntime, stream: Stream, bytes: &[u8]) -> bool {
+    let written = many_on(rt, stream, bytes);
+    if written.is_early {
+        return patiently(rt, stream, &bytes[written.count..]);
     }
-    if os::errno() != libc::EAGAIN {
-        return false;
-    }
-    patiently(to, &bytes[n..])
-}
-
-// The bytes of a room from 5 up to an end.
-pub(crate) fn gathered(to: u8, room: &[u8], end: usize) -> bool {
-    if end < 5 {
-        return false;
-    }
-    if room.len() < end {
-        return false;
-    }
-    whole(to, &room[5..end])
+    written.count == bytes.len()
 }

@@ -1,6 +1,8 @@
 // The report as a whole: its first line, the records, the sets, and a hint.
+#![tactic(auto)]
+
 use bench_form::told;
-use bench_out::Out;
+use bench_out::{Out, Stream};
 use bench_refuse::Asked;
 use sdrr_info::SdrrInfo;
 
@@ -63,7 +65,7 @@ pub fn report(
     set_rows: &[u32],
     rom_rows: &[u32],
 ) -> u8 {
-    let mut out = bench_out::to(1, how.machine);
+    let mut out = bench_out::to(how.rt, Stream::Output, how.machine);
     heading(&mut out, how.file, image.len());
     records(&mut out, image, info);
     sets(&mut out, image, base, info, set_rows, rom_rows);

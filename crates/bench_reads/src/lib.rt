@@ -1,27 +1,27 @@
 // Bytes of a set: as a socket would see them, as they are stored, and one by itself. Each call says the status that the program ends with.
 // A socket's bytes go by the set's own ROM count and first type; where it is asked for, by set 0's.
-use bench_form::choice;
-use bench_form::told;
-use bench_out::Out;
+#![tactic(auto)]
+
+ghost use Rattle.std.specs.Prelude.{◌≤◌, ◌≡◌, length};
+
+use bench_form::{choice, told};
+use bench_out::{Out, Stream};
 use bench_refuse::Asked;
 use board::Board;
 use byte_reads::ByteRead;
 use info::SdrrAddress;
 use rows::SetWord;
 use types::SdrrCsSet;
-ghost use Prim.Native.Nat.{_≤_};
-ghost use mathlib.Core.Path.{_≡_};
-ghost use lib.ListN.{length};
-ghost use Rattle·io.specs.Counts.{Counts};
 
 // 131,072 bytes: the addresses of the largest type that can be read so, a 231024.
 fn byte_space() -> [u8; 131072]
-    ensures { λ r. ⌜ 131072 ≡ length r ⌝ }
+    ensures { 131072 ≡ length result }
 {
     [0; 131072]
 }
 
 // 0 and how many bytes there are; or the number of the refusal, and the address that is refused.
+#[derive(Clone, Copy)]
 struct Filled {
     number: u8,
     length: usize,
@@ -29,7 +29,7 @@ struct Filled {
 
 // 77 is no refusal here: it says where the addresses end.
 fn fill_end(number: u8, length: usize) -> Filled
-    ensures { λ r. ⌜ r .length ≡ length ⌝ }
+    ensures { result.length ≡ length }
 {
     let n = if number == 77 { 0 } else { number };
     Filled { number: n, length }
@@ -73,13 +73,7 @@ fn logical_byte(
     if by_set_0 {
         let address = SdrrAddress::Logical(at, cs_set);
         return byte_reads::read_rom_byte_demangled(
-            image,
-            board,
-            set_rows,
-            rom_rows,
-            set,
-            address,
-            0,
+            image, board, set_rows, rom_rows, set, address, 0,
         );
     }
     own_reads::read_rom_byte_own(image, board, set_rows, rom_rows, set, at, cs_set, 0)
@@ -96,19 +90,17 @@ fn fill(
     cs_set: SdrrCsSet,
     space: &mut [u8],
 ) -> Filled
-    ensures { λ r. ⌜ Counts (r .length) (now (space .exit)) ⌝ }
+    ensures { result.length ≤ length space.new }
 {
-    let mut i: usize = 0;
-    while i < space.len() {
+    for i in 0..space.len() {
         let at = (i % 4294967296) as u32;
         let r = logical_byte(image, board, set_rows, rom_rows, by_set_0, set, at, cs_set);
         if r.number != 0 {
             return fill_end(r.number, i);
         }
         space[i] = r.byte;
-        i += 1;
     }
-    fill_end(0, i)
+    fill_end(0, space.len())
 }
 
 // What stands beside bytes that were written whole, on standard error.
@@ -116,7 +108,7 @@ fn beside(asked: Asked, status: u8, forms: &[u8], numbers: &[u32]) -> u8 {
     if status != 0 {
         return status;
     }
-    let mut out = bench_out::to(2, asked.machine);
+    let mut out = bench_out::to(asked.rt, Stream::Error, asked.machine);
     told(&mut out, forms, numbers);
     bench_out::flush(&mut out);
     if bench_out::is_whole(&out) {
@@ -158,14 +150,7 @@ fn read_into(
     let mut space = byte_space();
     let by_set_0 = asked.by_set_0;
     let f = fill(
-        image,
-        board,
-        set_rows,
-        rom_rows,
-        by_set_0,
-        set,
-        cs_set,
-        &mut space,
+        image, board, set_rows, rom_rows, by_set_0, set, cs_set, &mut space,
     );
     let n = f.length;
     written(asked, &space[..n], set, f.number)
@@ -177,7 +162,7 @@ fn written(asked: Asked, bytes: &[u8], set: u32, number: u8) -> u8 {
     if number != 0 {
         return refuse_address(asked, number, set, at);
     }
-    let mut out = bench_out::to(1, asked.machine);
+    let mut out = bench_out::to(asked.rt, Stream::Output, asked.machine);
     bench_out::bytes(&mut out, bytes);
     read_done(asked, &mut out, set, at)
 }
@@ -199,7 +184,7 @@ pub fn read(
 }
 
 fn least(a: u32, b: u32) -> u32
-    ensures { λ r. ⌜ (r ≤ a) × (r ≤ b) ⌝ }
+    ensures { (result ≤ a) × (result ≤ b) }
 {
     if a < b { a } else { b }
 }
@@ -232,9 +217,9 @@ fn raw_some(
     offset: u32,
     left: u32,
 ) -> u32
-    ensures { λ r. ⌜ r ≤ left ⌝ }
+    ensures { result ≤ left }
 {
-    let mut space = io::large_buffer();
+    let mut space = [0; 65536];
     let count = least(left, 65536);
     let n = count as usize;
     if raw_part(out, image, board, set_rows, set, offset, &mut space[..n]) {
@@ -262,14 +247,14 @@ pub fn raw(asked: Asked, image: &[u8], board: Board, set_rows: &[u32], set: u32)
         return bench_refuse::part(asked, found.number, b", set %d", &[set]);
     }
     let size = rows::set_word(set_rows, set, SetWord::Size);
-    let mut out = bench_out::to(1, asked.machine);
+    let mut out = bench_out::to(asked.rt, Stream::Output, asked.machine);
     raw_all(&mut out, image, board, set_rows, set, size);
     raw_done(asked, &mut out, set, size)
 }
 
 // A byte, which set it is read by, where in the set it is stored, and as what.
 fn show_byte(asked: Asked, set: u32, at: u32, byte: u8, stored: u8, offset: u32) -> u8 {
-    let mut out = bench_out::to(1, asked.machine);
+    let mut out = bench_out::to(asked.rt, Stream::Output, asked.machine);
     told(
         &mut out,
         b"set %d%_, address %x: %b|ok\nset %d\nby_set %d\naddress %d\nbyte %d\n",

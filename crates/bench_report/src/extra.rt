@@ -2,8 +2,7 @@
 use super::outcome;
 use bench_form::choice;
 use bench_out::Out;
-use extra_info::ExtraInfoItem;
-use extra_info::FirePioDefault;
+use extra_info::{ExtraInfoItem, FirePioDefault};
 use version::FirmwareVersion;
 
 fn pio(p: FirePioDefault) -> u32 {

@@ -9,13 +9,11 @@ fn wide(b: u8) -> u32 {
 
 // The commit's characters up to a NUL.
 fn commit(out: &mut Out, c: [u8; 8]) {
-    let mut i = 0;
-    while i < 8 {
-        if c[i] == 0 {
+    for b in c {
+        if b == 0 {
             return;
         }
-        bench_out::character(out, c[i]);
-        i += 1;
+        bench_out::character(out, b);
     }
 }
 

@@ -1,11 +1,12 @@
 // The report on a board, for a person or for a script (docs/BENCH.md lists a script's keys): everything but the sets. Forms of an item come in
 // pairs: accepted, refused, and a case of its own.
+#![tactic(auto)]
+
 mod extra; // extra info
 mod header_lines;
 mod pin_lines;
 
-use bench_form::choice;
-use bench_form::told;
+use bench_form::{choice, told};
 use bench_out::Out;
 use extra_info::ExtraInfoItem;
 use header::SdrrInfoFields;

@@ -1,18 +1,14 @@
 // The pins.
-use bench_form::choice;
-use bench_form::told;
+use bench_form::{choice, told};
 use bench_out::Out;
-use pins::PinsItem;
-use pins::SdrrPins;
+use pins::{PinsItem, SdrrPins};
 use type_numbers::port_number;
 
 // The bytes as numbers for a form.
 fn widened(bytes: &[u8]) -> [u32; 16] {
     let mut n = [0; 16];
-    let mut i = 0;
-    while i < 16 {
+    for i in 0..16 {
         n[i] = le::u8_at(bytes, i) as u32;
-        i += 1;
     }
     n
 }
@@ -87,18 +83,16 @@ pub(crate) fn pins(out: &mut Out, i: PinsItem) {
     let cs = p.cs_port;
     let sel = p.sel_port;
     let status = p.status_port;
-    let n = widened(
-        &[
-            i.number,
-            i.number,
-            p.rom_pins,
-            port_number(data),
-            port_number(addr),
-            port_number(cs),
-            port_number(sel),
-            port_number(status),
-        ],
-    );
+    let n = widened(&[
+        i.number,
+        i.number,
+        p.rom_pins,
+        port_number(data),
+        port_number(addr),
+        port_number(cs),
+        port_number(sel),
+        port_number(status),
+    ]);
     choice(
         out,
         b"Pins               %_%_%d-pin ROM; ports: data %p, address %p,\n                   CS %p, select %p, status %p\n|\

@@ -1,23 +1,23 @@
 // The rows of an opened board: what is looked up in them, and where the dump holds a set.
+#![tactic(auto)]
+
+ghost use Rattle.std.specs.Prelude.{◌≡◌, ◌*◌, length};
+ghost use Rattle.rows.specs.LentRows.{setWidth, romWidth};
+
 use board::Board;
-use rows::RomWord;
-use rows::SetWord;
+use rows::{RomWord, SetWord};
 use set_data::Found;
 use text::Text;
-ghost use mathlib.Core.Path.{_≡_};
-ghost use Prim.Native.Nat.{_*_};
-ghost use lib.ListN.{length};
-ghost use Rattle·rows.specs.LentRows.{setWidth, romWidth};
 
 // Rows for 255 sets, and for 4,096 ROMs. The contracts give the lengths alone.
 pub fn set_space() -> [u32; 255 * rows::SET_WORDS]
-    ensures { λ r. ⌜ 255 * setWidth ≡ length r ⌝ }
+    ensures { 255 * setWidth ≡ length result }
 {
     [0; 255 * rows::SET_WORDS]
 }
 
 pub fn rom_space() -> [u32; 4096 * rows::ROM_WORDS]
-    ensures { λ r. ⌜ 4096 * romWidth ≡ length r ⌝ }
+    ensures { 4096 * romWidth ≡ length result }
 {
     [0; 4096 * rows::ROM_WORDS]
 }

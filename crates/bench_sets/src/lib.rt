@@ -1,11 +1,11 @@
 // The sets and their ROMs, for a person or for a script.
+#![tactic(auto)]
+
 mod same;
 
-use bench_form::choice;
-use bench_form::told;
+use bench_form::{choice, told};
 use bench_out::Out;
-use rows::RomWord;
-use rows::SetWord;
+use rows::{RomWord, SetWord};
 use sets_item::SetsItem;
 use text::Text;
 
@@ -43,11 +43,9 @@ fn rom(out: &mut Out, image: &[u8], rom_rows: &[u32], row: u32, set: u32, k: u32
 
 fn roms(out: &mut Out, image: &[u8], set_rows: &[u32], rom_rows: &[u32], set: u32) {
     let count = rows::set_word(set_rows, set, SetWord::RomCount);
-    let mut k = 0;
-    while k < count {
+    for k in 0..count {
         let row = bench_rows::rom_row(set_rows, set, k);
         rom(out, image, rom_rows, row, set, k);
-        k += 1;
     }
 }
 
@@ -117,15 +115,13 @@ fn pass(
     is_second: bool,
 ) -> bool {
     let mut any = false;
-    let mut i = 0;
-    while i < served {
+    for i in 0..served {
         let one = if is_second {
             same::line(out, image, base, served, set_rows, rom_rows, i)
         } else {
             set(out, image, base, served, set_rows, rom_rows, i)
         };
         any = base::either(any, one);
-        i += 1;
     }
     any
 }

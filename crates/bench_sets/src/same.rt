@@ -7,13 +7,11 @@ use text::Text;
 
 // The first set that is the same as this one: this one itself where no earlier set is.
 fn first_same(served: u32, set_rows: &[u32], rom_rows: &[u32], set: u32) -> u32 {
-    let mut a = 0;
-    while a < set {
+    for a in 0..set {
         let v = same_set::same_set(served, set_rows, rom_rows, a, set);
         if v.value == 1 {
             return a;
         }
-        a += 1;
     }
     set
 }
@@ -41,12 +39,10 @@ fn is_equal_name(image: &[u8], set_rows: &[u32], rom_rows: &[u32], a: u32, b: u3
 // The names of the ROMs of two sets that are the same, and so have equally many.
 fn names(image: &[u8], set_rows: &[u32], rom_rows: &[u32], a: u32, b: u32) -> u32 {
     let count = rows::set_word(set_rows, a, SetWord::RomCount);
-    let mut k = 0;
-    while k < count {
+    for k in 0..count {
         if !is_equal_name(image, set_rows, rom_rows, a, b, k) {
             return 1;
         }
-        k += 1;
     }
     0
 }

@@ -1,13 +1,12 @@
 // Calls on a board, by the report and rows as lent.
-use super::record;
-use super::show;
-use super::words;
+use super::{record, show, words};
 use board::Board;
 use info::SdrrAddress;
-use types::Level;
-use types::SdrrCsSet;
+use std::io;
+use types::{Level, SdrrCsSet};
 
 // A call as the input has it, in 16 bytes: kind, levels (five digits to base 3, CS1 the lowest), a half for the length, three words.
+#[derive(Clone, Copy)]
 pub(crate) struct Call {
     pub(crate) kind: u8,
     pub(crate) levels: u8,
@@ -18,6 +17,7 @@ pub(crate) struct Call {
 }
 
 // A number, and a value: of a read of several bytes the sum of the buffer. Reads have the served count beside them.
+#[derive(Clone, Copy)]
 pub(crate) struct Reply {
     pub(crate) number: u8,
     pub(crate) value: u32,
@@ -198,30 +198,45 @@ fn run(
     }
 }
 
-fn run_shown(image: &[u8], board: Board, sets: &[u32], roms: &[u32], call: Call) {
-    let mut space = io::buffer();
+fn run_shown(
+    rt: &impl Print,
+    image: &[u8],
+    board: Board,
+    sets: &[u32],
+    roms: &[u32],
+    call: Call,
+) -> io::Result<()> {
+    let mut space = words::byte_space();
     let n = call.length as usize;
     if 4096 < n {
-        return;
+        return Ok(());
     }
     let r = run(image, board, sets, roms, call, &mut space[..n]);
-    show::first(r.number as u32);
-    show::next(r.value);
+    show::first(rt, r.number as u32)?;
+    show::next(rt, r.value)?;
     if 3 < call.kind {
-        show::next(r.count);
+        show::next(rt, r.count)?;
     }
+    Ok(())
 }
 
 // The calls, one after the other on a line.
-pub(crate) fn run_all(image: &[u8], board: Board, sets: &[u32], roms: &[u32], calls: &[u8]) {
+pub(crate) fn run_all(
+    rt: &impl Print,
+    image: &[u8],
+    board: Board,
+    sets: &[u32],
+    roms: &[u32],
+    calls: &[u8],
+) -> io::Result<()> {
     let mut at = 0;
     while 16 <= calls.len() - at {
         if at != 0 {
-            show::gap();
+            show::gap(rt)?;
         }
         let call = call_of(record::from(calls, at));
-        run_shown(image, board, sets, roms, call);
+        run_shown(rt, image, board, sets, roms, call)?;
         at += 16;
     }
-    show::end();
+    show::end(rt)
 }

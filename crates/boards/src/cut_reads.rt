@@ -1,14 +1,11 @@
 // Demand 3 on the code as it runs: reads on a cut beside the same reads on the whole, each as the first after the opening.
-use super::calls;
-use super::calls::Call;
-use super::calls::Reply;
-use super::record;
-use super::tally;
+use super::calls::{Call, Reply};
 use super::tally::Tally;
-use super::words;
+use super::{calls, record, tally, words};
 use board::Board;
 
 // The boards of the whole and of a cut, and the cut's length.
+#[derive(Clone, Copy)]
 pub(crate) struct Boards {
     pub(crate) length: u32,
     pub(crate) whole: Board,
@@ -16,6 +13,7 @@ pub(crate) struct Boards {
 }
 
 // Whether a call was tried, its reply on the cut, and whether that is a refusal or the whole's reply, with the same bytes.
+#[derive(Clone, Copy)]
 struct Both {
     tried: bool,
     cut: Reply,
@@ -84,8 +82,8 @@ fn read_both(
     cut_roms: &[u32],
     call: Call,
 ) -> Both {
-    let mut bytes = io::buffer();
-    let mut cut_bytes = io::buffer();
+    let mut bytes = words::byte_space();
+    let mut cut_bytes = words::byte_space();
     let n = call.length as usize;
     if call.kind < 4 {
         return untried();
@@ -130,13 +128,10 @@ pub(crate) fn run(
     cut_roms: &[u32],
     tally: Tally,
 ) -> Tally {
-    let n = record::word(given, 7);
     let mut t = tally;
-    let mut left = n;
-    while left != 0 {
-        let call = first(given, n - left);
+    for k in 0..record::word(given, 7) {
+        let call = first(given, k);
         t = counted(t, read_both(b, given, sets, roms, cut_sets, cut_roms, call));
-        left -= 1;
     }
     t
 }

@@ -1,17 +1,13 @@
 // Demand 3 on the code as it runs: an image cut short, opened beside the whole.
-use super::cut_reads;
 use super::cut_reads::Boards;
-use super::opened;
-use super::record;
-use super::report;
-use super::tally;
-use super::tally::Tally;
-use super::tally::Verdict;
-use super::words;
+use super::tally::{Tally, Verdict};
+use super::{cut_reads, opened, record, report, tally, words};
 use rows::RomWord;
 use sdrr_info::SdrrInfo;
+use std::io;
 
 // A cut that was opened: its length, its number and report, and the whole's report.
+#[derive(Clone, Copy)]
 struct Cut {
     length: u32,
     number: u8,
@@ -287,26 +283,19 @@ fn compared(
 
 // The cuts, whose lengths stand behind the calls.
 pub(crate) fn run(
+    rt: &impl Print,
     given: &[u8],
     whole: SdrrInfo,
     sets: &[u32],
     roms: &[u32],
     cut_sets: &mut [u32],
     cut_roms: &mut [u32],
-) {
+) -> io::Result<()> {
     let n = record::cuts(given);
     let mut t = tally::none();
-    let mut left = n;
-    while left != 0 {
-        let c = open(
-            given,
-            record::cut(given, n - left),
-            whole,
-            cut_sets,
-            cut_roms,
-        );
+    for k in 0..n {
+        let c = open(given, record::cut(given, k), whole, cut_sets, cut_roms);
         t = compared(c, given, sets, roms, cut_sets, cut_roms, t);
-        left -= 1;
     }
-    tally::show(t, n);
+    tally::show(rt, t, n)
 }

@@ -1,10 +1,8 @@
 // Calls on a report and rows as the input lends them.
-use super::calls;
-use super::record;
-use super::words;
-use board::Board;
-use board::BoardPins;
+use super::{calls, record, words};
+use board::{Board, BoardPins};
 use pins::PinsItem;
+use std::io;
 
 // The pins item: the pins of a record of 88 bytes, with a number of its own.
 fn pins(bytes: &[u8], number: u8) -> BoardPins {
@@ -26,12 +24,17 @@ fn board(given: &[u8]) -> Board {
 }
 
 // The rows stand behind the pins, and the calls behind the rows.
-pub(crate) fn run(given: &[u8], sets: &mut [u32], roms: &mut [u32]) {
+pub(crate) fn run(
+    rt: &impl Print,
+    given: &[u8],
+    sets: &mut [u32],
+    roms: &mut [u32],
+) -> io::Result<()> {
     let rows = record::from(record::rest(given), 88);
     let rom_rows = record::from(rows, 4 * (record::word(given, 4) as usize));
     let calls = record::from(rom_rows, 4 * (record::word(given, 5) as usize));
     words::load(sets, rows);
     words::load(roms, rom_rows);
     let image = record::image(given);
-    calls::run_all(image, board(given), sets, roms, calls);
+    calls::run_all(rt, image, board(given), sets, roms, calls)
 }

@@ -1,5 +1,7 @@
 // Runs the boards of tests/model/make_boards.py: a board to a record of standard input, its answers to lines of standard output, which
 // `rt check` compares with the expected lines beside it.
+#![tactic(auto)]
+
 mod calls;
 mod cut_reads;
 mod cuts;
@@ -12,73 +14,91 @@ mod show;
 mod tally;
 mod words;
 
-use libc::STDIN_FILENO;
+ghost use Rattle.std.specs.Prelude.{◌≤◌, length, IfOk};
+
+use std::io;
+use std::io::Read;
+
+// Reads until the space is full or the input ends.
+fn read_full(input: &mut impl Read, space: &mut [u8]) -> io::Result<usize>
+    ensures { IfOk result (λ n. n ≤ length space.new) }
+{
+    let mut done = 0;
+    while done < space.len() {
+        let more = input.read(&mut space[done..])?;
+        if more == 0 {
+            break;
+        }
+        done += more;
+    }
+    Ok(done)
+}
 
 // The next record's length; 0 at the end of the input, or where the record does not fit.
-fn read_record(space: &mut [u8]) -> usize {
+fn read_record(input: &mut impl Read, space: &mut [u8]) -> io::Result<usize> {
     let mut head = [0u8; 4];
-    let got = io::read_full(STDIN_FILENO, &mut head);
+    let got = read_full(input, &mut head)?;
     if got < 4 {
-        return 0;
+        return Ok(0);
     }
     let n = le::u32_at(&head, 0) as usize;
     if space.len() < n {
-        return 0;
+        return Ok(0);
     }
-    io::read_full(STDIN_FILENO, &mut space[..n])
+    read_full(input, &mut space[..n])
 }
 
-fn run_rows(given: &[u8], sets: &mut [u32], roms: &mut [u32]) {
+fn run_rows(rt: &impl Print, given: &[u8], sets: &mut [u32], roms: &mut [u32]) -> io::Result<()> {
     if record::word(given, 0) == 76 {
-        lent::run(given, sets, roms);
+        lent::run(rt, given, sets, roms)
     } else {
-        opened::run(given, sets, roms);
+        opened::run(rt, given, sets, roms)
     }
 }
 
 // The rows have the lengths in words 4 and 5.
-fn run_record(given: &[u8], sets: &mut [u32], roms: &mut [u32]) {
+fn run_record(rt: &impl Print, given: &[u8], sets: &mut [u32], roms: &mut [u32]) -> io::Result<()> {
     let n = record::word(given, 4) as usize;
     let m = record::word(given, 5) as usize;
     if sets.len() < n {
-        return;
+        return Ok(());
     }
     if roms.len() < m {
-        return;
+        return Ok(());
     }
-    run_rows(given, &mut sets[..n], &mut roms[..m]);
+    run_rows(rt, given, &mut sets[..n], &mut roms[..m])
 }
 
-fn run_packed(packed: &[u8], roms: &mut [u32]) {
+fn run_packed(rt: &impl Print, packed: &[u8], roms: &mut [u32]) -> io::Result<()> {
     let mut given = words::input_space();
     let n = packed::unpack(&mut given, packed);
     let mut sets = words::set_space();
-    run_record(record::part(&given, 0, n), &mut sets, roms);
+    run_record(rt, record::part(&given, 0, n), &mut sets, roms)
 }
 
 // Runs the next record, and says whether there was one.
-fn run_next(roms: &mut [u32]) -> bool {
-    let mut input = words::input_space();
-    let n = read_record(&mut input);
+fn run_next(rt: &impl Print, input: &mut impl Read, roms: &mut [u32]) -> io::Result<bool> {
+    let mut space = words::input_space();
+    let n = read_record(input, &mut space)?;
     if n == 0 {
-        return false;
+        return Ok(false);
     }
-    run_packed(record::part(&input, 0, n), roms);
-    true
+    run_packed(rt, record::part(&space, 0, n), roms)?;
+    Ok(true)
 }
 
 // Records to the end of the input, or so many.
-fn run_all(roms: &mut [u32]) {
-    let mut left: u32 = 1000000;
-    while left != 0 {
-        if !run_next(roms) {
-            return;
+fn run_all(rt: &impl Print, input: &mut impl Read, roms: &mut [u32]) -> io::Result<()> {
+    for _ in 0..1000000 {
+        if !run_next(rt, input, roms)? {
+            return Ok(());
         }
-        left -= 1;
     }
+    Ok(())
 }
 
-fn main() {
-    let mut roms = words::rom_space();
-    run_all(&mut roms);
+// Rows of 255 times 255 ROMs, and a tail, are lent to every board.
+fn main(rt: HostRuntime) -> io::Result<()> {
+    let mut roms = vec![in rt.alloc(); 0; 65536 * rows::ROM_WORDS]?;
+    run_all(&rt, &mut rt.reader(), &mut roms)
 }

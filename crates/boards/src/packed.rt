@@ -1,7 +1,8 @@
 // A record as the input packs it. A byte below 128: so many bytes and one more follow as they are; any other byte c: the next one, c - 125 times,
 // or from 247 on 128 times, 256 times and so on.
+ghost use Rattle.std.specs.Prelude.{◌<◌};
+
 use super::record;
-ghost use Prim.Native.Nat.{_<_};
 
 // A byte, where there is room; and the index behind it.
 fn put(to: &mut [u8], at: usize, b: u8) -> usize {
@@ -14,7 +15,7 @@ fn put(to: &mut [u8], at: usize, b: u8) -> usize {
 
 // How many packed bytes the step takes that starts with c.
 fn width(c: u8) -> usize
-    ensures { λ r. ⌜ (0 < r) × (r < 130) ⌝ }
+    ensures { (0 < result) × (result < 130) }
 {
     if c < 128 {
         return c as usize + 2;
@@ -61,10 +62,8 @@ fn step(to: &mut [u8], at: usize, packed: &[u8]) -> usize {
     let c = le::u8_at(packed, 0);
     let n = count(c);
     let mut end = at;
-    let mut left = n;
-    while left != 0 {
-        end = put(to, end, byte(packed, c, n - left));
-        left -= 1;
+    for i in 0..n {
+        end = put(to, end, byte(packed, c, i));
     }
     end
 }

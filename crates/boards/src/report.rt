@@ -1,14 +1,12 @@
 // The report as 122 words: the header's fields, build date, revision, extra info, metadata, sets, pins. A refused item's words are in it too.
-use super::show;
-use super::words;
-use extra_info::ExtraInfoItem;
-use extra_info::FirePioDefault;
+use super::{show, words};
+use extra_info::{ExtraInfoItem, FirePioDefault};
 use header::SdrrInfoFields;
 use metadata::MetadataItem;
-use pins::PinsItem;
-use pins::SdrrPins;
+use pins::{PinsItem, SdrrPins};
 use sdrr_info::SdrrInfo;
 use sets_item::SetsItem;
+use std::io;
 use text::Text;
 use types::SdrrMcuPort;
 use version::FirmwareVersion;
@@ -36,10 +34,8 @@ fn half(words: &mut [u32], at: usize, n: u16) -> usize {
 
 fn bytes(words: &mut [u32], at: usize, s: &[u8]) -> usize {
     let mut end = at;
-    let mut i = 0;
-    while i < s.len() {
-        end = byte(words, end, s[i]);
-        i += 1;
+    for b in s {
+        end = byte(words, end, *b);
     }
     end
 }
@@ -241,24 +237,24 @@ pub(crate) fn same(a: &[u32; 122], b: &[u32; 122], from: usize, n: usize) -> boo
     words::same(a, b, from, n)
 }
 
-fn show_part(report: &[u32; 122], from: usize, n: usize) {
-    show::words(words::part(report, from, n));
+fn show_part(rt: &impl Print, report: &[u32; 122], from: usize, n: usize) -> io::Result<()> {
+    show::words(rt, words::part(report, from, n))
 }
 
 // An item's words; of a refused one its number alone.
-fn show_item(report: &[u32; 122], from: usize, n: usize) {
+fn show_item(rt: &impl Print, report: &[u32; 122], from: usize, n: usize) -> io::Result<()> {
     if at(report, from) != 0 {
-        show_part(report, from, 1);
+        show_part(rt, report, from, 1)
     } else {
-        show_part(report, from, n);
+        show_part(rt, report, from, n)
     }
 }
 
 // The sum of all words, and the words of the items that are not refused.
-pub(crate) fn show(report: &[u32; 122]) {
-    show::next(sum(report));
-    show_part(report, 0, 33);
-    show_item(report, 33, 7);
-    show_part(report, 40, 4);
-    show_item(report, 44, 78);
+pub(crate) fn show(rt: &impl Print, report: &[u32; 122]) -> io::Result<()> {
+    show::next(rt, sum(report))?;
+    show_part(rt, report, 0, 33)?;
+    show_item(rt, report, 33, 7)?;
+    show_part(rt, report, 40, 4)?;
+    show_item(rt, report, 44, 78)
 }

@@ -1,28 +1,26 @@
 // Numbers on lines.
-use libc::STDOUT_FILENO;
+use std::io;
 
-pub(crate) fn first(n: u32) {
-    io::print_decimal(STDOUT_FILENO, n as u64);
+pub(crate) fn first(rt: &impl Print, n: u32) -> io::Result<()> {
+    print!(rt; "{n}")
 }
 
-pub(crate) fn next(n: u32) {
-    io::write_all(STDOUT_FILENO, b" ");
-    io::print_decimal(STDOUT_FILENO, n as u64);
+pub(crate) fn next(rt: &impl Print, n: u32) -> io::Result<()> {
+    print!(rt; " {n}")
 }
 
-pub(crate) fn end() {
-    io::write_all(STDOUT_FILENO, b"\n");
+pub(crate) fn end(rt: &impl Print) -> io::Result<()> {
+    println!(rt)
 }
 
 // Between the answers of a line.
-pub(crate) fn gap() {
-    io::write_all(STDOUT_FILENO, b", ");
+pub(crate) fn gap(rt: &impl Print) -> io::Result<()> {
+    print!(rt; ", ")
 }
 
-pub(crate) fn words(words: &[u32]) {
-    let mut i = 0;
-    while i < words.len() {
-        next(words[i]);
-        i += 1;
+pub(crate) fn words(rt: &impl Print, words: &[u32]) -> io::Result<()> {
+    for word in words {
+        next(rt, *word)?;
     }
+    Ok(())
 }

@@ -1,11 +1,11 @@
 // What the cuts of a board came to, counted.
 use super::calls::Reply;
-use super::show;
-use super::words;
-use libc::STDOUT_FILENO;
+use super::{show, words};
+use std::io;
 
 // Cuts refused as ended, cuts that show the whole's report and rows, cuts with an item that is ended, reads that a cut accepted, cuts and
 // reads of which demand 3 does not hold; and a sum over all answers.
+#[derive(Clone, Copy)]
 pub(crate) struct Tally {
     sum: u32,
     refused: u32,
@@ -16,6 +16,7 @@ pub(crate) struct Tally {
 }
 
 // Of the opening of a cut: its number, whether the cut is shorter than the reach, whether demand 3 holds, and a sum over the answer.
+#[derive(Clone, Copy)]
 pub(crate) struct Verdict {
     pub(crate) number: u8,
     pub(crate) below: bool,
@@ -71,18 +72,18 @@ pub(crate) fn with_read(t: Tally, r: Reply, held: bool) -> Tally {
     }
 }
 
-pub(crate) fn show(t: Tally, cuts: u32) {
+pub(crate) fn show(rt: &impl Print, t: Tally, cuts: u32) -> io::Result<()> {
     if t.failed == 0 {
-        io::write_all(STDOUT_FILENO, b"demand 3 holds:");
+        print!(rt; "demand 3 holds:")?;
     } else {
-        io::write_all(STDOUT_FILENO, b"demand 3 FAILS:");
+        print!(rt; "demand 3 FAILS:")?;
     }
-    show::next(t.failed);
-    show::next(cuts);
-    show::next(t.refused);
-    show::next(t.ended);
-    show::next(t.equal);
-    show::next(t.reads);
-    show::next(t.sum);
-    show::end();
+    show::next(rt, t.failed)?;
+    show::next(rt, cuts)?;
+    show::next(rt, t.refused)?;
+    show::next(rt, t.ended)?;
+    show::next(rt, t.equal)?;
+    show::next(rt, t.reads)?;
+    show::next(rt, t.sum)?;
+    show::end(rt)
 }

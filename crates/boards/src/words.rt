@@ -1,28 +1,25 @@
 // Buffers of words and bytes: filled, summed, compared.
-ghost use mathlib.Core.Path.{_≡_};
-ghost use Prim.Native.Nat.{_*_};
-ghost use lib.ListN.{length};
-ghost use Rattle·rows.specs.LentRows.{romWidth};
+ghost use Rattle.std.specs.Prelude.{◌≡◌, length};
 
 // Each contract gives the length alone, so that no caller's proof computes the list.
 pub(crate) fn input_space() -> [u8; 69632]
-    ensures { λ r. ⌜ 69632 ≡ length r ⌝ }
+    ensures { 69632 ≡ length result }
 {
     [0; 69632]
 }
 
 // Rows of 255 sets, and a tail.
 pub(crate) fn set_space() -> [u32; 4096]
-    ensures { λ r. ⌜ 4096 ≡ length r ⌝ }
+    ensures { 4096 ≡ length result }
 {
     [0; 4096]
 }
 
-// Rows of 255 times 255 ROMs, and a tail.
-pub(crate) fn rom_space() -> [u32; 65536 * rows::ROM_WORDS]
-    ensures { λ r. ⌜ 65536 * romWidth ≡ length r ⌝ }
+// What a read of several bytes may fill.
+pub(crate) fn byte_space() -> [u8; 4096]
+    ensures { 4096 ≡ length result }
 {
-    [0; 65536 * rows::ROM_WORDS]
+    [0; 4096]
 }
 
 fn word_pattern(i: usize) -> u32 {
@@ -35,29 +32,23 @@ fn byte_pattern(i: usize) -> u8 {
 
 // What a lent buffer holds before a call.
 pub(crate) fn fill(words: &mut [u32]) {
-    let mut i = 0;
-    while i < words.len() {
+    for i in 0..words.len() {
         words[i] = word_pattern(i);
-        i += 1;
     }
 }
 
 pub(crate) fn fill_bytes(bytes: &mut [u8]) {
-    let mut i = 0;
-    while i < bytes.len() {
+    for i in 0..bytes.len() {
         bytes[i] = byte_pattern(i);
-        i += 1;
     }
 }
 
 // Whether a lent buffer is as it was filled.
 pub(crate) fn is_untouched(words: &[u32]) -> bool {
-    let mut i = 0;
-    while i < words.len() {
+    for i in 0..words.len() {
         if words[i] != word_pattern(i) {
             return false;
         }
-        i += 1;
     }
     true
 }
@@ -69,24 +60,16 @@ pub(crate) fn mix(sum: u32, n: u32) -> u32 {
 
 pub(crate) fn sum(words: &[u32]) -> u32 {
     let mut sum: u32 = 1;
-    let mut i = 0;
-    while i < words.len() {
-        sum = mix(sum, words[i]);
-        i += 1;
+    for word in words {
+        sum = mix(sum, *word);
     }
     sum
 }
 
-fn wide(b: u8) -> u32 {
-    b as u32
-}
-
 pub(crate) fn byte_sum(bytes: &[u8]) -> u32 {
     let mut sum: u32 = 1;
-    let mut i = 0;
-    while i < bytes.len() {
-        sum = mix(sum, wide(bytes[i]));
-        i += 1;
+    for byte in bytes {
+        sum = mix(sum, *byte as u32);
     }
     sum
 }
@@ -122,12 +105,10 @@ pub(crate) fn same_all(a: &[u32], b: &[u32]) -> bool {
     if a.len() != b.len() {
         return false;
     }
-    let mut i = 0;
-    while i < a.len() {
+    for i in 0..a.len() {
         if a[i] != b[i] {
             return false;
         }
-        i += 1;
     }
     true
 }
@@ -141,21 +122,17 @@ pub(crate) fn same_bytes(a: &[u8], b: &[u8]) -> bool {
     if a.len() != b.len() {
         return false;
     }
-    let mut i = 0;
-    while i < a.len() {
+    for i in 0..a.len() {
         if a[i] != b[i] {
             return false;
         }
-        i += 1;
     }
     true
 }
 
 // The little-endian words of some bytes.
 pub(crate) fn load(words: &mut [u32], bytes: &[u8]) {
-    let mut i = 0;
-    while i < words.len() {
+    for i in 0..words.len() {
         words[i] = le::u32_at(bytes, 4 * i);
-        i += 1;
     }
 }

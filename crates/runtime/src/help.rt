@@ -1,5 +1,7 @@
 // The help, on standard error: standard output is for records.
-use libc::STDERR_FILENO;
+use std::env::FillError;
+use std::io;
+use std::rt::Env;
 
 fn is_help(word: &[u8]) -> bool {
     let n = word.len();
@@ -13,28 +15,39 @@ fn is_help(word: &[u8]) -> bool {
 }
 
 // A longer argument than there is space for is not help.
-fn is_help_at(at: usize) -> bool {
+fn is_help_at(rt: &impl Env, at: usize) -> bool {
     let mut space = [0u8; 8];
-    let n = os::arg(at, &mut space);
-    is_help(&space[..n])
+    match rt.arg(at, &mut space) {
+        Ok(n) => is_help(&space[..n]),
+        Err(_) => false,
+    }
 }
 
-pub(crate) fn is_asked() -> bool {
-    let count = os::arg_count();
-    let mut i: usize = 1;
-    while i < count {
-        if is_help_at(i) {
+// Whether there are so many arguments, the program's name aside.
+pub(crate) fn is_given(rt: &impl Env, at: usize) -> bool {
+    let mut space = [0u8; 8];
+    match rt.arg(at, &mut space) {
+        Ok(_) => true,
+        Err(FillError::TooLong) => true,
+        Err(FillError::NotPresent) => false,
+    }
+}
+
+pub(crate) fn is_asked(rt: &impl Env) -> bool {
+    for i in 1..usize::MAX {
+        if !is_given(rt, i) {
+            return false;
+        }
+        if is_help_at(rt, i) {
             return true;
         }
-        i += 1;
     }
     false
 }
 
-pub(crate) fn help() {
-    io::write_all(
-        STDERR_FILENO,
-        b"runtime: says what the runtime record of a running One ROM board holds\n\n  \
+pub(crate) fn help(rt: &impl Eprint) -> io::Result<()> {
+    rt.eprint(
+        "runtime: says what the runtime record of a running One ROM board holds\n\n  \
         runtime <FILE    FILE: the record's bytes, as they stand in the board's RAM\n  \
         runtime --help   this page\n\n\
         The record is where a report of bench says, as in 'runtime at 0x20002000'; a\n\
@@ -49,5 +62,5 @@ pub(crate) fn help() {
         absent. The count's address is that of a record at 0x20000000. A record that\n\
         cannot be read is one line, 'refused N': 2 fewer than 20 bytes, 60 not sdrr at\n\
         its start, 61 a size byte under 20.\n",
-    );
+    )
 }

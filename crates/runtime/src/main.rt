@@ -1,159 +1,134 @@
 // Prints one runtime record, read from standard input, as document 01 fixes it. Everything else goes to standard error.
+#![tactic(auto)]
+
 mod help;
 
-use libc::STDERR_FILENO;
-use libc::STDIN_FILENO;
-use libc::STDOUT_FILENO;
-use runtime_info::GroupV060;
-use runtime_info::GroupV062;
-use runtime_info::GroupV063;
-use runtime_info::GroupV067;
-use runtime_info::RuntimeVersionedFields;
-use runtime_info::SdrrRuntimeInfo;
-use runtime_info::SdrrRuntimeInfoHeader;
-ghost use Rattle·io.specs.Counts.{Counts};
+ghost use Rattle.std.specs.Prelude.{◌≤◌, length};
+
+use runtime_info::{
+    GroupV060, GroupV062, GroupV063, GroupV067, RuntimeVersionedFields, SdrrRuntimeInfo,
+    SdrrRuntimeInfoHeader,
+};
+use std::io;
+use std::io::Read;
 
 const RAM_BASE: u32 = 536870912;
 
-// Each of these takes whether all was written so far and answers whether all is: behind a write that failed there is no other, so that a record
-// has no hole.
-fn print(ok: bool, text: &[u8]) -> bool {
-    if !ok {
-        return false;
-    }
-    io::write_all(STDOUT_FILENO, text)
+fn flag(b: bool) -> u8 {
+    if b { 1 } else { 0 }
 }
 
-fn print_number(ok: bool, n: u64) -> bool {
-    if !print(ok, b" ") {
-        return false;
-    }
-    io::print_decimal(STDOUT_FILENO, n)
+fn print_head(rt: &impl Print, h: SdrrRuntimeInfoHeader) -> io::Result<()> {
+    println!(rt;
+        "head {} {} {} {} {} {} {}",
+        h.image_sel,
+        h.rom_set_index,
+        h.count_rom_access,
+        h.access_count,
+        h.access_count_address,
+        h.rom_table_ptr,
+        h.rom_table_size
+    )
 }
 
-fn print_flag(ok: bool, b: bool) -> bool {
-    print_number(ok, if b { 1 } else { 0 })
-}
-
-fn print_head(h: SdrrRuntimeInfoHeader) -> bool {
-    let mut ok = print(true, b"head");
-    ok = print_number(ok, h.image_sel as u64);
-    ok = print_number(ok, h.rom_set_index as u64);
-    ok = print_number(ok, h.count_rom_access as u64);
-    ok = print_number(ok, h.access_count as u64);
-    ok = print_number(ok, h.access_count_address as u64);
-    ok = print_number(ok, h.rom_table_ptr as u64);
-    ok = print_number(ok, h.rom_table_size as u64);
-    print(ok, b"\n")
-}
-
-fn print_v060(before: bool, g: GroupV060) -> bool {
-    let mut ok = print(before, b"0.6.0");
+fn print_v060(rt: &impl Print, g: GroupV060) -> io::Result<()> {
     match g {
-        GroupV060::Present(v) => {
-            ok = print_flag(ok, v.overclock_enabled);
-            ok = print_flag(ok, v.status_led_enabled);
-            ok = print_flag(ok, v.swd_enabled);
-            ok = print_number(ok, v.fire_vreg as u64);
-            ok = print_number(ok, v.ice_freq_mhz as u64);
-            ok = print_number(ok, v.fire_freq_mhz as u64);
-            ok = print_number(ok, v.sysclk_mhz as u64);
-        }
-        GroupV060::Absent => {
-            ok = print(ok, b" absent");
-        }
+        GroupV060::Present(v) => println!(rt;
+            "0.6.0 {} {} {} {} {} {} {}",
+            flag(v.overclock_enabled),
+            flag(v.status_led_enabled),
+            flag(v.swd_enabled),
+            v.fire_vreg,
+            v.ice_freq_mhz,
+            v.fire_freq_mhz,
+            v.sysclk_mhz
+        ),
+        GroupV060::Absent => println!(rt; "0.6.0 absent"),
     }
-    print(ok, b"\n")
 }
 
-fn print_v062(before: bool, g: GroupV062) -> bool {
-    let mut ok = print(before, b"0.6.2");
+fn print_v062(rt: &impl Print, g: GroupV062) -> io::Result<()> {
     match g {
-        GroupV062::Present(v) => {
-            ok = print_number(ok, v.fire_serve_mode as u64);
-            ok = print_number(ok, v.bit_mode as u64);
-        }
-        GroupV062::Absent => {
-            ok = print(ok, b" absent");
-        }
+        GroupV062::Present(v) => println!(rt; "0.6.2 {} {}", v.fire_serve_mode, v.bit_mode),
+        GroupV062::Absent => println!(rt; "0.6.2 absent"),
     }
-    print(ok, b"\n")
 }
 
-fn print_v063(before: bool, g: GroupV063) -> bool {
-    let mut ok = print(before, b"0.6.3");
+fn print_v063(rt: &impl Print, g: GroupV063) -> io::Result<()> {
     match g {
-        GroupV063::Present(v) => {
-            ok = print_flag(ok, v.rom_dma_copy);
-            ok = print_number(ok, v.num_data_pins as u64);
-            ok = print_flag(ok, v.force_16_bit);
-        }
-        GroupV063::Absent => {
-            ok = print(ok, b" absent");
-        }
+        GroupV063::Present(v) => println!(rt;
+            "0.6.3 {} {} {}",
+            flag(v.rom_dma_copy),
+            v.num_data_pins,
+            flag(v.force_16_bit)
+        ),
+        GroupV063::Absent => println!(rt; "0.6.3 absent"),
     }
-    print(ok, b"\n")
 }
 
-fn print_v067(before: bool, g: GroupV067) -> bool {
-    let mut ok = print(before, b"0.6.7");
+fn print_v067(rt: &impl Print, g: GroupV067) -> io::Result<()> {
     match g {
-        GroupV067::Present(v) => {
-            ok = print_number(ok, v.peri_en as u64);
-            ok = print_number(ok, v.limp_mode as u64);
-        }
-        GroupV067::Absent => {
-            ok = print(ok, b" absent");
-        }
+        GroupV067::Present(v) => println!(rt; "0.6.7 {} {}", v.peri_en, v.limp_mode),
+        GroupV067::Absent => println!(rt; "0.6.7 absent"),
     }
-    print(ok, b"\n")
 }
 
-fn print_fields(before: bool, f: RuntimeVersionedFields) -> bool {
+// Behind a write that failed there is no other, so that a record has no hole.
+fn print_fields(rt: &impl Print, f: RuntimeVersionedFields) -> io::Result<()> {
     let v060 = f.v0_6_0;
     let v062 = f.v0_6_2;
     let v063 = f.v0_6_3;
     let v067 = f.v0_6_7;
-    let mut ok = print_v060(before, v060);
-    ok = print_v062(ok, v062);
-    ok = print_v063(ok, v063);
-    print_v067(ok, v067)
+    print_v060(rt, v060)?;
+    print_v062(rt, v062)?;
+    print_v063(rt, v063)?;
+    print_v067(rt, v067)
 }
 
-fn print_refused(number: u8) -> bool {
-    let mut ok = print(true, b"refused");
-    ok = print_number(ok, number as u64);
-    print(ok, b"\n")
-}
-
-fn print_record(bytes: &[u8]) -> bool {
+fn print_record(rt: &impl Print, bytes: &[u8]) -> io::Result<()> {
     match runtime_info::parse_ram(bytes, RAM_BASE) {
         SdrrRuntimeInfo::Parsed(head, fields) => {
-            let ok = print_head(head);
-            print_fields(ok, fields)
+            print_head(rt, head)?;
+            print_fields(rt, fields)
         }
-        SdrrRuntimeInfo::Refused(number) => print_refused(number),
+        SdrrRuntimeInfo::Refused(number) => println!(rt; "refused {number}"),
     }
+}
+
+// An error's words without the number that the system gives it.
+fn reason(text: &str) -> &str {
+    match text.split_once(" (os error ") {
+        Some((words, _)) => words,
+        None => text,
+    }
+}
+
+// Says on standard error what failed, and why.
+fn fail(rt: &(impl Eprint + Alloc), what: &str, e: io::Error) -> io::Result<()> {
+    let text = format!(in rt.alloc(); "{e}")?;
+    eprintln!(rt; "runtime: {what}: {}", reason(text.as_str()))
 }
 
 // One read. Where it fails, standard error says why.
-fn read_some(space: &mut [u8]) -> usize
-    ensures { λ r. ⌜ Counts r (now (space .exit)) ⌝ }
+fn read_some(rt: &(impl Eprint + Alloc), input: &mut impl Read, space: &mut [u8]) -> usize
+    ensures { result ≤ length space.new }
 {
-    let got = libc::read(STDIN_FILENO, space);
-    if got < 0 {
-        os::fail(b"runtime: standard input could not be read");
+    match input.read(space) {
+        Ok(n) => n,
+        Err(e) => {
+            let _ = fail(rt, "standard input could not be read", e);
+            0
+        }
     }
-    io::count(got, space)
 }
 
 // Reads until the space is full, the input ends or a read fails; what came before that counts.
-fn read_record(space: &mut [u8]) -> usize
-    ensures { λ r. ⌜ Counts r (now (space .exit)) ⌝ }
+fn read_record(rt: &(impl Eprint + Alloc), input: &mut impl Read, space: &mut [u8]) -> usize
+    ensures { result ≤ length space.new }
 {
     let mut done = 0;
     while done < space.len() {
-        let more = read_some(&mut space[done..]);
+        let more = read_some(rt, input, &mut space[done..]);
         if more == 0 {
             return done;
         }
@@ -162,20 +137,17 @@ fn read_record(space: &mut [u8]) -> usize
     done
 }
 
-fn main() {
-    if help::is_asked() {
-        help::help();
+fn main(rt: HostRuntime) {
+    if help::is_asked(&rt) {
+        let _ = help::help(&rt);
         return;
     }
-    if 1 < os::arg_count() {
-        io::write_all(
-            STDERR_FILENO,
-            b"runtime: reads standard input, and no argument but --help counts\n",
-        );
+    if help::is_given(&rt, 1) {
+        let _ = eprintln!(rt; "runtime: reads standard input, and no argument but --help counts");
     }
     let mut space = [0u8; 64];
-    let n = read_record(&mut space);
-    if !print_record(&space[..n]) {
-        os::fail(b"runtime: standard output could not all be written");
+    let n = read_record(&rt, &mut rt.reader(), &mut space);
+    if let Err(e) = print_record(&rt, &space[..n]) {
+        let _ = fail(&rt, "standard output could not all be written", e);
     }
 }

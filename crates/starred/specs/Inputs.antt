@@ -1,7 +1,5 @@
 -- The inputs of document 01's starred cases.
-use Prim.Native.Nat.{ℕ}
-use mathlib.Core.List.{List, [], _∷_}
-use lib.ListN.{take, set, replicate}
+use Rattle.std.specs.Prelude.{ℕ, List, [], ◌∷◌, take, set, replicate}
 
 -- Program `runtime`
 abbrev pub ramBase : ℕ

@@ -1,32 +1,29 @@
--- The starred cases of document 01 as one table: what the exported calls answer by their statements, what 01 says, and the theorem `starred` that they agree.
-use Prim.Native.Nat.{ℕ}
-use mathlib.Core.Path.{_≡_, refl}
-use mathlib.Core.List.{List, [], _∷_}
-use lib.ListN.{replicate}
-use Rattle·window.specs.Window.{canRead, pastWindow}
-use Rattle·magic.specs.Magic.{startsWith}
-use Rattle·runtime_info.specs.Runtime.{headOf, runtimeHeader, reaches, group060Of, group062Of, group063Of, group067Of, runtimeOf}
-use Rattle·runtime_info.specs.Words.{headWords, words060, words062, words063, words067, runtimeWords, numberOf, wordsAfter}
-use Rattle·prog.specs.Prog.{run, answer as readAnswer}
-use Rattle·utf8.specs.Utf8.{classOf, lowAfter, highAfter, lacking, isUtf8}
-use Rattle·text.specs.Text.{hasNul, beforeNul, judged, chunksP, textP, stringCall, partAfter}
-use Rattle·types.specs.Types.{isHigh, romTypeOf}
-use Rattle·type_numbers.specs.TypeNumbers.{romTypeNumber}
-use Rattle·demangle.specs.Bits.{bitAt, takenBit, gather}
-use Rattle·demangle.specs.Demangle.{allBelow, demangle}
-use Rattle·least_pin.specs.LeastPin.{leastOf, leastPin}
-use Rattle·base_zero.specs.BaseZero.{lowered, loweredBy, baseZero}
-use Rattle·rom_rules.specs.Rules.{rulesOf, drives, mangleNumber}
-use Rattle·input_word.specs.Input.{raised, inputWord}
-use Rattle·mangle.specs.declared.Mangled.{Mangled}
-use Rattle·mangle.specs.PinMap.{withAddress, withX, controlOff, withControl, withControls, mapNumber, wholeMap, mapBy, mapOf, pinMap}
-use Rattle·mangle.specs.Mangle.{mangleBy, mangleOf, mangleCore}
-use Rattle·governing.specs.Governing.{governing, governingSet0}
-use Rattle·info.specs.Lent.{mangledBy, mangleAddress, demangleByte}
-use Rattle·c_board.specs.Board.{pinsFrom}
-use Rattle·c_board.specs.Value.{valueAfter}
-use Rattle·c_mangle.specs.Board.{mangleCall, demangleCall}
-use Rattle·starred·specs.specs.Inputs.{ramBase, recordR1, recordR2, recordR3, recordR4, flashBase, imageT1, imageT2, imageT3, pinsD1, pinsD2, pinsM1, pinsM2}
+-- The starred cases of document 01 as one table: what C's calls answer by their statements, what 01 says, and the theorem `starred` that they agree.
+use Rattle.std.specs.Prelude.{ℕ, ◌≡◌, refl, List, [], ◌∷◌, replicate}
+use Rattle.window.specs.Window.{canRead, pastWindow}
+use Rattle.magic.specs.Magic.{startsWith}
+use Rattle.runtime_info.specs.Runtime.{headOf, runtimeHeader, reaches, group060Of, group062Of, group063Of, group067Of, runtimeOf}
+use Rattle.runtime_info.specs.Words.{headWords, words060, words062, words063, words067, runtimeWords, numberOf, wordsAfter}
+use Rattle.prog.specs.Prog.{run, answer as readAnswer}
+use Rattle.utf8.specs.Utf8.{classOf, lowAfter, highAfter, lacking, isUtf8}
+use Rattle.text.specs.Text.{hasNul, beforeNul, judged, chunksP, textP, stringCall, partAfter}
+use Rattle.types.specs.Types.{isHigh, romTypeOf}
+use Rattle.type_numbers.specs.TypeNumbers.{romTypeNumber}
+use Rattle.demangle.specs.Bits.{bitAt, takenBit, gather}
+use Rattle.demangle.specs.Demangle.{allBelow, demangle}
+use Rattle.least_pin.specs.LeastPin.{leastOf, leastPin}
+use Rattle.base_zero.specs.BaseZero.{lowered, loweredBy, baseZero}
+use Rattle.rom_rules.specs.Rules.{rulesOf, drives, mangleNumber}
+use Rattle.input_word.specs.Input.{raised, inputWord}
+use Rattle.mangle.specs.declared.Mangled.{Mangled}
+use Rattle.mangle.specs.PinMap.{withAddress, withX, controlOff, withControl, withControls, mapNumber, wholeMap, mapBy, mapOf, pinMap}
+use Rattle.mangle.specs.Mangle.{mangleBy, mangleOf, mangleCore}
+use Rattle.governing.specs.Governing.{governing, governingSet0}
+use Rattle.info.specs.Lent.{mangledBy, mangleAddress, demangleByte}
+use Rattle.c_board.specs.Board.{pinsFrom}
+use Rattle.c_board.specs.Value.{valueAfter}
+use Rattle.c_mangle.specs.Board.{mangleCall, demangleCall}
+use Rattle.starred.specs.Inputs.{ramBase, recordR1, recordR2, recordR3, recordR4, flashBase, imageT1, imageT2, imageT3, pinsD1, pinsD2, pinsM1, pinsM2}
 
 pub data Case : Type 0 where
   R1 R2 R3 R4 T1 T2 T3 D1 D2 M1 M2 M3 : Case
@@ -39,11 +36,11 @@ ofRecord s = numberOf (runtimeOf s ramBase) ∷ wordsAfter (runtimeOf s ramBase)
 
 -- a string at the image's base: its offset and length
 abbrev pub ofString : List ℕ → List ℕ
-ofString x = stringCall flashBase flashBase x .number ∷ partAfter (stringCall flashBase flashBase x) (replicate 2 9)
+ofString x = (stringCall flashBase flashBase x).number ∷ partAfter (stringCall flashBase flashBase x) (replicate 2 9)
 
 -- the byte 1, by these data pins
 abbrev pub ofByte : List ℕ → List ℕ
-ofByte pins = demangleCall 0 pins 1 .number ∷ valueAfter (demangleCall 0 pins 1 .number) (demangleCall 0 pins 1 .value) 9 ∷ []
+ofByte pins = (demangleCall 0 pins 1).number ∷ valueAfter (demangleCall 0 pins 1).number (demangleCall 0 pins 1).value 9 ∷ []
 
 -- a 2364 alone on its board of 24 pins, by its address pins and CS1, whose level is high; the control pins that it does not use are 255
 abbrev mangled : List ℕ → (cs1 address : ℕ) → Mangled
@@ -51,7 +48,7 @@ mangled pins cs1 address =
     mangleCall 0 24 pins (cs1 ∷ replicate 6 255) 1 (0 ∷ 0 ∷ 0 ∷ 1 ∷ replicate 4 0) (2 ∷ replicate 6 0) address (1 ∷ replicate 4 0)
 
 abbrev pub ofAddress : List ℕ → (cs1 address : ℕ) → List ℕ
-ofAddress pins cs1 address = mangled pins cs1 address .number ∷ valueAfter (mangled pins cs1 address .number) (mangled pins cs1 address .value) 9 ∷ []
+ofAddress pins cs1 address = (mangled pins cs1 address).number ∷ valueAfter (mangled pins cs1 address).number (mangled pins cs1 address).value 9 ∷ []
 
 abbrev pub answer : Case → List ℕ
 answer R1 = ofRecord recordR1

@@ -1,41 +1,47 @@
-// The starred cases of document 01, run by the exported calls. Each function's statement is its row of specs/Table.antt.
+// The starred cases of document 01, run by the calls that C's entry points are a line over. Each function's statement is its row of specs/Table.antt.
 // What a call is lent holds 9 throughout, so that it shows what was written and what was left.
-ghost use mathlib.Core.Path.{_≡_};
-ghost use mathlib.Core.List.{[], _∷_};
-ghost use Rattle·starred·specs.specs.Table.{ofRecord, ofString, ofByte, ofAddress, expected};
-ghost use Rattle·starred·specs.specs.Table.Case.{R1, R2, R3, R4, T1, T2, T3, D1, D2, M1, M2, M3};
-use libc::STDOUT_FILENO;
+#![tactic(auto)]
 
+ghost use Rattle.std.specs.Prelude.{◌≡◌, [], ◌∷◌};
+ghost use Rattle.starred.specs.Table.{ofRecord, ofString, ofByte, ofAddress, expected};
+ghost use Rattle.starred.specs.Table.Case.{R1, R2, R3, R4, T1, T2, T3, D1, D2, M1, M2, M3};
+
+use std::io;
+
+#[derive(Clone, Copy)]
 struct RuntimeAnswer {
     number: u32,
     words: [u32; 25],
 }
 
+#[derive(Clone, Copy)]
 struct StringAnswer {
     number: u32,
     part: [u32; 2],
 }
 
+#[derive(Clone, Copy)]
 struct ByteAnswer {
     number: u32,
     value: u8,
 }
 
+#[derive(Clone, Copy)]
 struct AddressAnswer {
     number: u32,
     value: u32,
 }
 
 fn record_answer(record: &[u8]) -> RuntimeAnswer
-    ensures { λ r. ⌜ (r .number ∷ r .words) ≡ ofRecord (now («record» .entry)) ⌝ }
+    ensures { (result.number ∷ result.words) ≡ ofRecord «record».now }
 {
     let mut words = [9u32; 25];
-    let number = onerom::onerom_runtime(record, 536870912, &mut words);
+    let number = c_runtime::runtime_call(record, 536870912, &mut words);
     RuntimeAnswer { number, words }
 }
 
 fn case_r1() -> RuntimeAnswer
-    ensures { λ r. ⌜ (r .number ∷ r .words) ≡ expected R1 ⌝ }
+    ensures { (result.number ∷ result.words) ≡ expected R1 }
 {
     record_answer(
         b"sdrr\x24\x01\x02\x01\x05\x00\x00\x00\x00\x00\x00\x20\x00\x00\x01\x00\x00\x00\x00\x00\x01\x00\x02\x0b\x96\x00\x2c\x01\x2c\x01\x01\x03",
@@ -43,7 +49,7 @@ fn case_r1() -> RuntimeAnswer
 }
 
 fn case_r2() -> RuntimeAnswer
-    ensures { λ r. ⌜ (r .number ∷ r .words) ≡ expected R2 ⌝ }
+    ensures { (result.number ∷ result.words) ≡ expected R2 }
 {
     record_answer(
         b"sdrr\x24\x01\x02\x01\x05\x00\x00\x00\x00\x00\x00\x20\x00\x00\x01\x00\x00\x00\x00\x00\x01\x00\x02\x0b\x96\x00\x2c\x01\x2c",
@@ -51,7 +57,7 @@ fn case_r2() -> RuntimeAnswer
 }
 
 fn case_r3() -> RuntimeAnswer
-    ensures { λ r. ⌜ (r .number ∷ r .words) ≡ expected R3 ⌝ }
+    ensures { (result.number ∷ result.words) ≡ expected R3 }
 {
     record_answer(
         b"sdrr\x13\x01\x02\x01\x05\x00\x00\x00\x00\x00\x00\x20\x00\x00\x01\x00\x00\x00\x00\x00\x01\x00\x02\x0b\x96\x00\x2c\x01\x2c\x01\x01\x03",
@@ -59,7 +65,7 @@ fn case_r3() -> RuntimeAnswer
 }
 
 fn case_r4() -> RuntimeAnswer
-    ensures { λ r. ⌜ (r .number ∷ r .words) ≡ expected R4 ⌝ }
+    ensures { (result.number ∷ result.words) ≡ expected R4 }
 {
     record_answer(
         b"sdrr\x24\x01\x02\x01\x05\x00\x00\x00\x00\x00\x00\x20\x00\x00\x01\x00\x00\x00\x00\x00\x01\x00\x02\x20\x96\x00\x2c\x01\x2c\x01\x01\x03",
@@ -67,15 +73,15 @@ fn case_r4() -> RuntimeAnswer
 }
 
 fn string_answer(image: &[u8]) -> StringAnswer
-    ensures { λ r. ⌜ (r .number ∷ r .part) ≡ ofString (now (image .entry)) ⌝ }
+    ensures { (result.number ∷ result.part) ≡ ofString image.now }
 {
     let mut part = [9u32; 2];
-    let number = onerom::onerom_string(image, 134217728, 134217728, &mut part);
+    let number = c_string::string_call(image, 134217728, 134217728, &mut part);
     StringAnswer { number, part }
 }
 
 fn case_t1() -> StringAnswer
-    ensures { λ r. ⌜ (r .number ∷ r .part) ≡ expected T1 ⌝ }
+    ensures { (result.number ∷ result.part) ≡ expected T1 }
 {
     let mut image = [0u8; 64];
     image[0] = 65;
@@ -83,7 +89,7 @@ fn case_t1() -> StringAnswer
 }
 
 fn case_t2() -> StringAnswer
-    ensures { λ r. ⌜ (r .number ∷ r .part) ≡ expected T2 ⌝ }
+    ensures { (result.number ∷ result.part) ≡ expected T2 }
 {
     let mut image = [0u8; 63];
     image[0] = 65;
@@ -91,7 +97,7 @@ fn case_t2() -> StringAnswer
 }
 
 fn case_t3() -> StringAnswer
-    ensures { λ r. ⌜ (r .number ∷ r .part) ≡ expected T3 ⌝ }
+    ensures { (result.number ∷ result.part) ≡ expected T3 }
 {
     let mut image = [0u8; 64];
     image[0] = 0xC0;
@@ -100,22 +106,22 @@ fn case_t3() -> StringAnswer
 }
 
 fn byte_answer(data: &[u8; 8]) -> ByteAnswer
-    ensures { λ r. ⌜ (r .number ∷ r .value ∷ []) ≡ ofByte (now («data» .entry)) ⌝ }
+    ensures { (result.number ∷ result.value ∷ []) ≡ ofByte «data».now }
 {
     let mut value = 9u8;
-    let number = onerom::onerom_demangle(0, data, 1, &mut value);
+    let number = c_mangle::demangle_call(0, data, 1, &mut value);
     ByteAnswer { number, value }
 }
 
 fn case_d1() -> ByteAnswer
-    ensures { λ r. ⌜ (r .number ∷ r .value ∷ []) ≡ expected D1 ⌝ }
+    ensures { (result.number ∷ result.value ∷ []) ≡ expected D1 }
 {
     let data = [7u8, 6, 5, 4, 3, 2, 1, 0];
     byte_answer(&data)
 }
 
 fn case_d2() -> ByteAnswer
-    ensures { λ r. ⌜ (r .number ∷ r .value ∷ []) ≡ expected D2 ⌝ }
+    ensures { (result.number ∷ result.value ∷ []) ≡ expected D2 }
 {
     let data = [7u8, 6, 5, 8, 3, 2, 1, 0];
     byte_answer(&data)
@@ -123,120 +129,80 @@ fn case_d2() -> ByteAnswer
 
 // One set with one ROM, a 2364; CS1 high.
 fn address_answer(addr: &[u8; 16], cs1: u8, address: u32) -> AddressAnswer
-    ensures { λ r. ⌜ (r .number ∷ r .value ∷ []) ≡ ofAddress (now (addr .entry)) cs1 address ⌝ }
+    ensures { (result.number ∷ result.value ∷ []) ≡ ofAddress addr.now cs1 address }
 {
     let control = [cs1, 255, 255, 255, 255, 255, 255];
     let set_row = [0u32, 0, 0, 1, 0, 0, 0, 0];
     let rom_row = [2u32, 0, 0, 0, 0, 0, 0];
     let levels = [1u8, 0, 0, 0, 0];
     let mut value = 9u32;
-    let number = onerom::onerom_mangle(
-        0,
-        24,
-        addr,
-        &control,
-        1,
-        &set_row,
-        &rom_row,
-        address,
-        &levels,
-        &mut value,
+    let number = c_mangle::mangle_call(
+        0, 24, addr, &control, 1, &set_row, &rom_row, address, &levels, &mut value,
     );
     AddressAnswer { number, value }
 }
 
 fn case_m1() -> AddressAnswer
-    ensures { λ r. ⌜ (r .number ∷ r .value ∷ []) ≡ expected M1 ⌝ }
+    ensures { (result.number ∷ result.value ∷ []) ≡ expected M1 }
 {
     let addr = [0u8, 1, 2, 3, 4, 5, 6, 7, 8, 9, 10, 11, 12, 255, 255, 255];
     address_answer(&addr, 13, 5)
 }
 
 fn case_m2() -> AddressAnswer
-    ensures { λ r. ⌜ (r .number ∷ r .value ∷ []) ≡ expected M2 ⌝ }
+    ensures { (result.number ∷ result.value ∷ []) ≡ expected M2 }
 {
     let addr = [
-        8u8,
-        9,
-        10,
-        11,
-        12,
-        13,
-        14,
-        15,
-        16,
-        17,
-        18,
-        19,
-        20,
-        255,
-        255,
-        255,
+        8u8, 9, 10, 11, 12, 13, 14, 15, 16, 17, 18, 19, 20, 255, 255, 255,
     ];
     address_answer(&addr, 21, 5)
 }
 
 fn case_m3() -> AddressAnswer
-    ensures { λ r. ⌜ (r .number ∷ r .value ∷ []) ≡ expected M3 ⌝ }
+    ensures { (result.number ∷ result.value ∷ []) ≡ expected M3 }
 {
     let addr = [0u8, 1, 2, 3, 4, 5, 6, 7, 8, 9, 10, 11, 12, 255, 255, 255];
     address_answer(&addr, 13, 8192)
 }
 
-fn print_number(n: u32) {
-    io::write_all(STDOUT_FILENO, b" ");
-    io::print_decimal(STDOUT_FILENO, n as u64);
-}
-
-fn print_words(words: &[u32]) {
-    let mut i = 0;
-    while i < words.len() {
-        print_number(words[i]);
-        i += 1;
+fn print_words(rt: &impl Print, words: &[u32]) -> io::Result<()> {
+    for word in words {
+        print!(rt; " {word}")?;
     }
+    println!(rt)
 }
 
-fn print_runtime(name: &[u8], a: RuntimeAnswer) {
-    io::write_all(STDOUT_FILENO, name);
-    print_number(a.number);
+fn print_runtime(rt: &impl Print, name: &str, a: RuntimeAnswer) -> io::Result<()> {
+    print!(rt; "{name} {}", a.number)?;
     let words = a.words;
-    print_words(&words);
-    io::write_all(STDOUT_FILENO, b"\n");
+    print_words(rt, &words)
 }
 
-fn print_text(name: &[u8], t: StringAnswer) {
-    io::write_all(STDOUT_FILENO, name);
-    print_number(t.number);
+fn print_text(rt: &impl Print, name: &str, t: StringAnswer) -> io::Result<()> {
+    print!(rt; "{name} {}", t.number)?;
     let part = t.part;
-    print_words(&part);
-    io::write_all(STDOUT_FILENO, b"\n");
+    print_words(rt, &part)
 }
 
-fn print_byte(name: &[u8], d: ByteAnswer) {
-    io::write_all(STDOUT_FILENO, name);
-    print_number(d.number);
-    print_number(d.value as u32);
-    io::write_all(STDOUT_FILENO, b"\n");
+fn print_byte(rt: &impl Print, name: &str, d: ByteAnswer) -> io::Result<()> {
+    println!(rt; "{name} {} {}", d.number, d.value)
 }
 
-fn print_address(name: &[u8], m: AddressAnswer) {
-    io::write_all(STDOUT_FILENO, name);
-    print_number(m.number);
-    print_number(m.value);
-    io::write_all(STDOUT_FILENO, b"\n");
+fn print_address(rt: &impl Print, name: &str, m: AddressAnswer) -> io::Result<()> {
+    println!(rt; "{name} {} {}", m.number, m.value)
 }
 
-fn main() {
-    print_runtime(b"R1", case_r1());
-    print_runtime(b"R2", case_r2());
-    print_runtime(b"R3", case_r3());
-    print_runtime(b"R4", case_r4());
-    print_text(b"T1", case_t1());
-    print_text(b"T2", case_t2());
-    print_text(b"T3", case_t3());
-    print_byte(b"D1", case_d1());
-    print_byte(b"D2", case_d2());
-    print_address(b"M1", case_m1());
-    print_address(b"M2", case_m2());
-    print_address(b"M3", case_m3());
+fn main(rt: HostRuntime) -> io::Result<()> {
+    print_runtime(&rt, "R1", case_r1())?;
+    print_runtime(&rt, "R2", case_r2())?;
+    print_runtime(&rt, "R3", case_r3())?;
+    print_runtime(&rt, "R4", case_r4())?;
+    print_text(&rt, "T1", case_t1())?;
+    print_text(&rt, "T2", case_t2())?;
+    print_text(&rt, "T3", case_t3())?;
+    print_byte(&rt, "D1", case_d1())?;
+    print_byte(&rt, "D2", case_d2())?;
+    print_address(&rt, "M1", case_m1())?;
+    print_address(&rt, "M2", case_m2())?;
+    print_address(&rt, "M3", case_m3())
 }

@@ -1,9 +1,8 @@
 // A line of the vectors: a letter, numbers of eight hexadecimal digits, bytes in hexadecimal, each behind a space.
-ghost use Prim.Native.Nat.{_≤_, _<_, _^_};
-ghost use lib.ListN.{length};
+ghost use Rattle.std.specs.Prelude.{◌≤◌, ◌<◌, ◌^◌, length};
 
 fn digit(c: u8) -> u8
-    ensures { λ r. ⌜ r < 16 ⌝ }
+    ensures { result < 16 }
 {
     if c < 48 {
         return 0;
@@ -48,31 +47,27 @@ pub(crate) fn byte_of(line: &[u8], k: u8) -> u8 {
 
 // Decodes the bytes behind so many numbers, and says how many there are.
 pub(crate) fn decode(line: &[u8], numbers: usize, bytes: &mut [u8; 4096]) -> usize
-    requires { ⌜ numbers < 16 ⌝ }
-    ensures { λ r. ⌜ r ≤ 4096 ⌝ }
+    requires { numbers < 16 }
+    ensures { result ≤ 4096 }
 {
     let from = 2 + 9 * numbers;
-    let mut n: usize = 0;
-    while n < 4096 {
+    for n in 0..4096 {
         if line.len() < from + 2 * n + 2 {
             return n;
         }
         bytes[n] = digit(line[from + 2 * n]) * 16 + digit(line[from + 2 * n + 1]);
-        n += 1;
     }
-    n
+    4096
 }
 
 pub(crate) fn line_end(input: &[u8], from: usize) -> usize
-    requires { ⌜ from ≤ length (now input) ⌝ }
-    ensures { λ r. ⌜ (from ≤ r) × (r ≤ length (now (input .entry))) ⌝ }
+    requires { from ≤ length input.now }
+    ensures { (from ≤ result) × (result ≤ length input.now) }
 {
-    let mut i = from;
-    while i < input.len() {
+    for i in from..input.len() {
         if input[i] == 10 {
             return i;
         }
-        i += 1;
     }
-    i
+    input.len()
 }

@@ -1,28 +1,24 @@
 // Runs the vectors of tests/model/make.py: a vector to a line of standard input, its answer to a line of standard output, which `rt check`
 // compares with the expected lines beside it.
+#![tactic(auto)]
+
 mod lines;
 mod mangling;
 mod show;
 
-use libc::STDIN_FILENO;
-ghost use mathlib.Core.Path.{_≡_};
-ghost use Prim.Native.Nat.{_<_};
-ghost use lib.ListN.{length};
+ghost use Rattle.std.specs.Prelude.{◌<◌};
 
-// The contract gives the length alone, so that no caller's proof computes the list.
-fn input_space() -> [u8; 2097152]
-    ensures { λ r. ⌜ 2097152 ≡ length r ⌝ }
-{
-    [0; 2097152]
-}
+use std::io;
+use std::io::Read;
 
-fn run_runtime(record: &[u8], ram_base: u32) {
+fn run_runtime(rt: &impl Print, record: &[u8], ram_base: u32) -> io::Result<()> {
     let mut words = [0u32; 25];
-    let number = onerom::onerom_runtime(record, ram_base, &mut words);
-    show::first(number);
+    let number = c_runtime::runtime_call(record, ram_base, &mut words);
+    show::first(rt, number)?;
     if number == 0 {
-        show::words(&words);
+        show::words(rt, &words)?;
     }
+    Ok(())
 }
 
 fn run_version(line: &[u8]) -> version::FirmwareVersion {
@@ -34,81 +30,84 @@ fn run_version(line: &[u8]) -> version::FirmwareVersion {
     }
 }
 
-fn run_extra_info(line: &[u8], image: &[u8]) {
+fn run_extra_info(rt: &impl Print, line: &[u8], image: &[u8]) -> io::Result<()> {
     let base = lines::number(line, 0);
     let pointer = lines::number(line, 1);
     let version = run_version(line);
-    show::extra_info(extra_info::read_extra_info(image, base, pointer, version));
+    show::extra_info(
+        rt,
+        extra_info::read_extra_info(image, base, pointer, version),
+    )
 }
 
-// A string by the exported call.
-fn run_string(image: &[u8], base: u32, pointer: u32) {
+// A string by the call for C and Rust.
+fn run_string(rt: &impl Print, image: &[u8], base: u32, pointer: u32) -> io::Result<()> {
     let mut part = [0u32; 2];
-    let number = onerom::onerom_string(image, base, pointer, &mut part);
-    show::three(number, part[0], part[1]);
+    let number = c_string::string_call(image, base, pointer, &mut part);
+    show::three(rt, number, part[0], part[1])
 }
 
 // A kind whose numbers are a base and a pointer or an offset.
-fn run_record(kind: u8, line: &[u8], image: &[u8]) {
+fn run_record(rt: &impl Print, kind: u8, line: &[u8], image: &[u8]) -> io::Result<()> {
     let base = lines::number(line, 0);
     let at = lines::number(line, 1);
     match kind {
-        b's' => show::text(strings::read_string_at_ptr(image, base, at)),
-        b'S' => run_string(image, base, at),
-        b'h' => show::header(header_record::retrieve_header(image, base, at)),
-        b'm' => show::metadata(metadata::read_one_rom_metadata_header_info(image, base, at)),
-        b'p' => show::pins(pins_record::read_pins(image, base, at)),
-        _ => show::first(255),
+        b's' => show::text(rt, strings::read_string_at_ptr(image, base, at)),
+        b'S' => run_string(rt, image, base, at),
+        b'h' => show::header(rt, header_record::retrieve_header(image, base, at)),
+        b'm' => show::metadata(
+            rt,
+            metadata::read_one_rom_metadata_header_info(image, base, at),
+        ),
+        b'p' => show::pins(rt, pins_record::read_pins(image, base, at)),
+        _ => show::first(rt, 255),
     }
 }
 
 // The first pins of the bytes: all 32, or the eight data pins.
 fn board_pins(bytes: [u8; 4096]) -> [u8; 32] {
     let mut p = [0u8; 32];
-    let mut i = 0;
-    while i < 32 {
+    for i in 0..32 {
         p[i] = bytes[i];
-        i += 1;
     }
     p
 }
 
 fn data_pins(bytes: [u8; 4096]) -> [u8; 8] {
     [
-        bytes[0],
-        bytes[1],
-        bytes[2],
-        bytes[3],
-        bytes[4],
-        bytes[5],
-        bytes[6],
-        bytes[7],
+        bytes[0], bytes[1], bytes[2], bytes[3], bytes[4], bytes[5], bytes[6], bytes[7],
     ]
 }
 
-fn run_board(kind: u8, line: &[u8], bytes: [u8; 4096]) {
+fn run_board(rt: &impl Print, kind: u8, line: &[u8], bytes: [u8; 4096]) -> io::Result<()> {
     match kind {
-        b'd' => mangling::run_demangle(line, &data_pins(bytes)),
-        b'g' => mangling::run_mangle(false, line, board_pins(bytes)),
-        _ => mangling::run_mangle(true, line, board_pins(bytes)),
+        b'd' => mangling::run_demangle(rt, line, &data_pins(bytes)),
+        b'g' => mangling::run_mangle(rt, false, line, board_pins(bytes)),
+        _ => mangling::run_mangle(rt, true, line, board_pins(bytes)),
     }
 }
 
-fn run_bytes(kind: u8, line: &[u8], bytes: [u8; 4096], n: usize) {
+fn run_bytes(
+    rt: &impl Print,
+    kind: u8,
+    line: &[u8],
+    bytes: [u8; 4096],
+    n: usize,
+) -> io::Result<()> {
     if 4096 < n {
-        return;
+        return Ok(());
     }
     let image = &bytes[..n];
     match kind {
-        b'r' => run_runtime(image, lines::number(line, 0)),
-        b'e' => run_extra_info(line, image),
-        _ => run_record(kind, line, image),
+        b'r' => run_runtime(rt, image, lines::number(line, 0)),
+        b'e' => run_extra_info(rt, line, image),
+        _ => run_record(rt, kind, line, image),
     }
 }
 
 // How many numbers stand between a kind and its bytes.
 fn numbers_of(kind: u8) -> usize
-    ensures { λ r. ⌜ r < 16 ⌝ }
+    ensures { result < 16 }
 {
     match kind {
         b'r' => 1,
@@ -119,31 +118,32 @@ fn numbers_of(kind: u8) -> usize
     }
 }
 
-fn run_line(line: &[u8]) {
+fn run_line(rt: &impl Print, line: &[u8]) -> io::Result<()> {
     let kind = le::u8_at(line, 0);
     let mut bytes = [0u8; 4096];
     let n = lines::decode(line, numbers_of(kind), &mut bytes);
     match kind {
-        b'd' | b'g' | b'G' => run_board(kind, line, bytes),
-        _ => run_bytes(kind, line, bytes, n),
+        b'd' | b'g' | b'G' => run_board(rt, kind, line, bytes)?,
+        _ => run_bytes(rt, kind, line, bytes, n)?,
     }
-    show::end();
+    show::end(rt)
 }
 
-fn run_all(input: &[u8]) {
+fn run_all(rt: &impl Print, input: &[u8]) -> io::Result<()> {
     let mut at = 0;
     while at < input.len() {
         let end = lines::line_end(input, at);
-        run_line(&input[at..end]);
+        run_line(rt, &input[at..end])?;
         at = end;
         if at < input.len() {
             at += 1;
         }
     }
+    Ok(())
 }
 
-fn main() {
-    let mut input = input_space();
-    let n = io::read_full(STDIN_FILENO, &mut input);
-    run_all(&input[..n]);
+fn main(rt: HostRuntime) -> io::Result<()> {
+    let mut input = Vec::new(rt.alloc());
+    rt.reader().read_to_end(&mut input)?;
+    run_all(&rt, &input)
 }

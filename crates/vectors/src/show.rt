@@ -1,217 +1,209 @@
 // Answers as numbers on a line.
-use extra_info::ExtraInfoItem;
-use extra_info::FirePioDefault;
-use extra_info::SdrrExtraInfo;
-use header::HeaderAnswer;
-use header::SdrrInfoFields;
-use libc::STDOUT_FILENO;
+use extra_info::{ExtraInfoItem, FirePioDefault, SdrrExtraInfo};
+use header::{HeaderAnswer, SdrrInfoFields};
 use metadata::MetadataAnswer;
-use pins::PinsItem;
-use pins::SdrrPins;
+use pins::{PinsItem, SdrrPins};
+use std::io;
 use text::Text;
 use types::SdrrMcuPort;
 use version::FirmwareVersion;
 
 // The line's first number.
-pub(crate) fn first(n: u32) {
-    io::print_decimal(STDOUT_FILENO, n as u64);
+pub(crate) fn first(rt: &impl Print, n: u32) -> io::Result<()> {
+    print!(rt; "{n}")
 }
 
-pub(crate) fn end() {
-    io::write_all(STDOUT_FILENO, b"\n");
+pub(crate) fn end(rt: &impl Print) -> io::Result<()> {
+    println!(rt)
 }
 
-fn next(n: u32) {
-    io::write_all(STDOUT_FILENO, b" ");
-    io::print_decimal(STDOUT_FILENO, n as u64);
+fn next(rt: &impl Print, n: u32) -> io::Result<()> {
+    print!(rt; " {n}")
 }
 
-fn flag(b: bool) {
-    next(if b { 1 } else { 0 });
+fn flag(rt: &impl Print, b: bool) -> io::Result<()> {
+    next(rt, if b { 1 } else { 0 })
 }
 
-fn byte(b: u8) {
-    next(b as u32);
+fn byte(rt: &impl Print, b: u8) -> io::Result<()> {
+    next(rt, b as u32)
 }
 
-pub(crate) fn words(words: &[u32; 25]) {
-    let mut i = 0;
-    while i < 25 {
-        next(words[i]);
-        i += 1;
+pub(crate) fn words(rt: &impl Print, words: &[u32; 25]) -> io::Result<()> {
+    for word in words {
+        next(rt, *word)?;
     }
+    Ok(())
 }
 
-pub(crate) fn two(a: u32, b: u32) {
-    first(a);
-    next(b);
+pub(crate) fn two(rt: &impl Print, a: u32, b: u32) -> io::Result<()> {
+    first(rt, a)?;
+    next(rt, b)
 }
 
 // Between two answers of a line.
-pub(crate) fn gap() {
-    io::write_all(STDOUT_FILENO, b" ");
+pub(crate) fn gap(rt: &impl Print) -> io::Result<()> {
+    print!(rt; " ")
 }
 
-pub(crate) fn three(a: u32, b: u32, c: u32) {
-    first(a);
-    next(b);
-    next(c);
+pub(crate) fn three(rt: &impl Print, a: u32, b: u32, c: u32) -> io::Result<()> {
+    first(rt, a)?;
+    next(rt, b)?;
+    next(rt, c)
 }
 
-pub(crate) fn text(t: Text) {
-    three(t.number as u32, t.offset, t.length);
+pub(crate) fn text(rt: &impl Print, t: Text) -> io::Result<()> {
+    three(rt, t.number as u32, t.offset, t.length)
 }
 
-pub(crate) fn metadata(m: MetadataAnswer) {
-    first(m.number as u32);
-    byte(m.rom_set_count);
-    next(m.rom_sets_ptr);
+pub(crate) fn metadata(rt: &impl Print, m: MetadataAnswer) -> io::Result<()> {
+    first(rt, m.number as u32)?;
+    byte(rt, m.rom_set_count)?;
+    next(rt, m.rom_sets_ptr)
 }
 
-fn port(p: SdrrMcuPort) {
-    byte(type_numbers::port_number(p));
+fn port(rt: &impl Print, p: SdrrMcuPort) -> io::Result<()> {
+    byte(rt, type_numbers::port_number(p))
 }
 
-fn pio_default(p: FirePioDefault) {
+fn pio_default(rt: &impl Print, p: FirePioDefault) -> io::Result<()> {
     match p {
-        FirePioDefault::NotGiven => next(2),
-        FirePioDefault::Given(b) => flag(b),
+        FirePioDefault::NotGiven => next(rt, 2),
+        FirePioDefault::Given(b) => flag(rt, b),
     }
 }
 
-pub(crate) fn extra_info(i: ExtraInfoItem) {
-    first(i.number as u32);
+pub(crate) fn extra_info(rt: &impl Print, i: ExtraInfoItem) -> io::Result<()> {
+    first(rt, i.number as u32)?;
     let e = i.extra_info;
-    next(e.rtt_ptr);
-    flag(e.usb_dfu);
+    next(rt, e.rtt_ptr)?;
+    flag(rt, e.usb_dfu)?;
     let usb = e.usb_port;
-    port(usb);
-    byte(e.vbus_pin);
+    port(rt, usb)?;
+    byte(rt, e.vbus_pin)?;
     let pio = e.fire_pio_default;
-    pio_default(pio);
-    next(e.runtime_info_ptr);
+    pio_default(rt, pio)?;
+    next(rt, e.runtime_info_ptr)
 }
 
-fn eight(a: [u8; 8]) {
-    let mut i = 0;
-    while i < 8 {
-        byte(a[i]);
-        i += 1;
+fn eight(rt: &impl Print, a: [u8; 8]) -> io::Result<()> {
+    for b in &a {
+        byte(rt, *b)?;
     }
+    Ok(())
 }
 
-fn sixteen(a: [u8; 16]) {
-    let mut i = 0;
-    while i < 16 {
-        byte(a[i]);
-        i += 1;
+fn sixteen(rt: &impl Print, a: [u8; 16]) -> io::Result<()> {
+    for b in &a {
+        byte(rt, *b)?;
     }
+    Ok(())
 }
 
-fn version(v: FirmwareVersion) {
-    next(v.major as u32);
-    next(v.minor as u32);
-    next(v.patch as u32);
-    next(v.build as u32);
+fn version(rt: &impl Print, v: FirmwareVersion) -> io::Result<()> {
+    next(rt, v.major as u32)?;
+    next(rt, v.minor as u32)?;
+    next(rt, v.patch as u32)?;
+    next(rt, v.build as u32)
 }
 
-fn flags(f: SdrrInfoFields) {
-    flag(f.overclock);
-    flag(f.swd_enabled);
-    flag(f.preload_image_to_ram);
-    flag(f.bootloader_capable);
-    flag(f.status_led_enabled);
-    flag(f.boot_logging_enabled);
-    flag(f.mco_enabled);
-    flag(f.count_rom_access);
+fn flags(rt: &impl Print, f: SdrrInfoFields) -> io::Result<()> {
+    flag(rt, f.overclock)?;
+    flag(rt, f.swd_enabled)?;
+    flag(rt, f.preload_image_to_ram)?;
+    flag(rt, f.bootloader_capable)?;
+    flag(rt, f.status_led_enabled)?;
+    flag(rt, f.boot_logging_enabled)?;
+    flag(rt, f.mco_enabled)?;
+    flag(rt, f.count_rom_access)
 }
 
-fn fields(f: SdrrInfoFields) {
+fn fields(rt: &impl Print, f: SdrrInfoFields) -> io::Result<()> {
     let v = f.version;
-    version(v);
+    version(rt, v)?;
     let commit = f.commit;
-    eight(commit);
+    eight(rt, commit)?;
     let l = f.stm_line;
-    byte(type_numbers::line_number(l));
+    byte(rt, type_numbers::line_number(l))?;
     let s = f.stm_storage;
-    byte(type_numbers::storage_number(s));
-    next(f.freq as u32);
-    flags(f);
+    byte(rt, type_numbers::storage_number(s))?;
+    next(rt, f.freq as u32)?;
+    flags(rt, f)?;
     let boot = f.boot_config;
-    byte(boot[0]);
-    byte(boot[1]);
-    byte(boot[2]);
-    byte(boot[3]);
+    byte(rt, boot[0])?;
+    byte(rt, boot[1])?;
+    byte(rt, boot[2])?;
+    byte(rt, boot[3])
 }
 
-pub(crate) fn header(a: HeaderAnswer) {
-    first(a.number as u32);
+pub(crate) fn header(rt: &impl Print, a: HeaderAnswer) -> io::Result<()> {
+    first(rt, a.number as u32)?;
     let h = a.header;
     let f = h.fields;
-    fields(f);
-    next(h.build_date_ptr);
-    next(h.hw_rev_ptr);
-    byte(h.rom_set_count);
-    next(h.rom_sets_ptr);
-    next(h.pins_ptr);
-    next(h.extra_ptr);
+    fields(rt, f)?;
+    next(rt, h.build_date_ptr)?;
+    next(rt, h.hw_rev_ptr)?;
+    byte(rt, h.rom_set_count)?;
+    next(rt, h.rom_sets_ptr)?;
+    next(rt, h.pins_ptr)?;
+    next(rt, h.extra_ptr)
 }
 
-fn ports(p: SdrrPins) {
+fn ports(rt: &impl Print, p: SdrrPins) -> io::Result<()> {
     let a = p.data_port;
-    port(a);
+    port(rt, a)?;
     let b = p.addr_port;
-    port(b);
+    port(rt, b)?;
     let c = p.cs_port;
-    port(c);
+    port(rt, c)?;
     let d = p.sel_port;
-    port(d);
+    port(rt, d)?;
     let e = p.status_port;
-    port(e);
-    byte(p.rom_pins);
+    port(rt, e)?;
+    byte(rt, p.rom_pins)
 }
 
-fn lines_of(p: SdrrPins) {
-    byte(p.cs1);
-    byte(p.cs2);
-    byte(p.cs3);
-    byte(p.reserved2a);
-    byte(p.reserved2b);
-    byte(p.reserved2c);
-    byte(p.x1);
-    byte(p.x2);
-    byte(p.ce);
-    byte(p.oe);
-    byte(p.x_jumper_pull);
+fn lines_of(rt: &impl Print, p: SdrrPins) -> io::Result<()> {
+    byte(rt, p.cs1)?;
+    byte(rt, p.cs2)?;
+    byte(rt, p.cs3)?;
+    byte(rt, p.reserved2a)?;
+    byte(rt, p.reserved2b)?;
+    byte(rt, p.reserved2c)?;
+    byte(rt, p.x1)?;
+    byte(rt, p.x2)?;
+    byte(rt, p.ce)?;
+    byte(rt, p.oe)?;
+    byte(rt, p.x_jumper_pull)
 }
 
-fn selects(p: SdrrPins) {
-    byte(p.swclk_sel);
-    byte(p.swdio_sel);
-    byte(p.sel0);
-    byte(p.sel1);
-    byte(p.sel2);
-    byte(p.sel3);
-    byte(p.sel4);
-    byte(p.sel5);
-    byte(p.sel6);
-    byte(p.sel_jumper_pull);
-    byte(p.status);
-    byte(p.extended);
+fn selects(rt: &impl Print, p: SdrrPins) -> io::Result<()> {
+    byte(rt, p.swclk_sel)?;
+    byte(rt, p.swdio_sel)?;
+    byte(rt, p.sel0)?;
+    byte(rt, p.sel1)?;
+    byte(rt, p.sel2)?;
+    byte(rt, p.sel3)?;
+    byte(rt, p.sel4)?;
+    byte(rt, p.sel5)?;
+    byte(rt, p.sel6)?;
+    byte(rt, p.sel_jumper_pull)?;
+    byte(rt, p.status)?;
+    byte(rt, p.extended)
 }
 
-pub(crate) fn pins(i: PinsItem) {
-    first(i.number as u32);
+pub(crate) fn pins(rt: &impl Print, i: PinsItem) -> io::Result<()> {
+    first(rt, i.number as u32)?;
     let p = i.pins;
-    ports(p);
+    ports(rt, p)?;
     let data = p.data;
-    eight(data);
+    eight(rt, data)?;
     let addr = p.addr;
-    sixteen(addr);
-    lines_of(p);
-    selects(p);
+    sixteen(rt, addr)?;
+    lines_of(rt, p)?;
+    selects(rt, p)?;
     let data2 = p.data2;
-    eight(data2);
+    eight(rt, data2)?;
     let addr2 = p.addr2;
-    sixteen(addr2);
+    sixteen(rt, addr2)
 }

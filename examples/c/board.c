@@ -1,8 +1,8 @@
 /* Opens a dump of a board's flash, lists its sets, says which are the same, and reads the first bytes of each: as they are stored, and as its socket
  * sees them with every line low.
  *
- *     rt staticlib onerom
- *     cc -Iinclude examples/c/board.c target/staticlib/libonerom.a -o board && ./board DUMP */
+ *     (cd crates/onerom && rt lib)
+ *     cc -Iinclude examples/c/board.c crates/onerom/out/libonerom.a -o board && ./board DUMP */
 #include <errno.h>
 #include <inttypes.h>
 #include <stdio.h>

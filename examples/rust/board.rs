@@ -1,8 +1,8 @@
 //! Opens a dump of a board's flash, lists its sets, says which are the same, and reads the first bytes of each: as they are stored, and as its socket
 //! sees them with every line low.
 //!
-//!     rt staticlib onerom
-//!     rustc --edition 2024 examples/rust/board.rs -L target/staticlib -l static=onerom -o board && ./board DUMP
+//!     (cd crates/onerom && rt lib)
+//!     rustc --edition 2024 examples/rust/board.rs -L crates/onerom/out -l static=onerom -o board && ./board DUMP
 
 mod onerom;
 

@@ -90,10 +90,10 @@ def leaving(at):
     table = words_of_numbers()
     many = put(at, "many.img", make.crowded(255, 16).bytes)
     for words, taken in ((ANSWERS[0], 0), (ANSWERS[1], 0), (ANSWERS[4], 0), (ANSWERS[2], 0), ([many], 100), ([many, "--machine"], 100)):
-        # A signal ends the program at once, as it ends others.
-        same(leaves(at, words, taken), (1, b""), "bench %r whose reader goes away" % (words,))
-        code, err = leaves(at, words, taken, restore_signals=False, preexec_fn=ignores_pipe)
-        not_written(code, err, words, table, "whose reader goes away")
+        # Whether or not its caller lets a signal end programs then, this one is not ended.
+        for more in ({}, {"restore_signals": False, "preexec_fn": ignores_pipe}):
+            code, err = leaves(at, words, taken, **more)
+            not_written(code, err, words, table, "whose reader goes away")
 
 
 def small_pipe():

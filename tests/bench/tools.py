@@ -11,8 +11,8 @@ sys.path.append(os.path.join(TOP, "tests", "model"))  # last: the samples' make.
 sys.dont_write_bytecode = True
 
 STORED = os.path.join(TOP, "tests", "data", "bench")
-PROGRAM = os.path.join(TOP, "target", "bin", "bench")
-BYTES = os.path.join(TOP, "target", "bin", "bench_bytes")
+PROGRAM = os.path.join(TOP, "crates", "bench", "out", "bench")
+BYTES = os.path.join(TOP, "crates", "bench_bytes", "out", "bench_bytes")
 
 
 def expect(is_right, what):
@@ -32,9 +32,16 @@ def program_of(folder, words):
     return BYTES if words_of_numbers()[119].encode() in done.stdout + done.stderr else PROGRAM
 
 
+def is_refusal(out, err):
+    """Whether what was said is no answer. Beside bytes that are read by set 0, standard error says so."""
+    is_said = out == b"" and err.startswith(b"bench: ") and not err.endswith(b" first type\n")
+    return is_said or out.startswith(b"refused ") or err.startswith(b"refused ")
+
+
 def run(folder, *words):
     done = subprocess.run([program_of(folder, words), *words], cwd=folder, stdin=subprocess.DEVNULL, capture_output=True, timeout=60)
-    same(done.returncode, 0, "exit status of bench " + " ".join(words))
+    expected = (1, 2) if is_refusal(done.stdout, done.stderr) else (0,)
+    expect(done.returncode in expected, "exit status of bench %s: %d" % (" ".join(words), done.returncode))
     return done.stdout, done.stderr
 
 

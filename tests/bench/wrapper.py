@@ -1,6 +1,7 @@
 """The script ./bench: when it has the program proved, what it runs, and what it passes on. In a small copy of the repository, where a
 stand-in for rt leaves what rt leaves, and the program is a script that says how it was called."""
 import os
+import re
 import shutil
 import stat
 import subprocess
@@ -8,33 +9,38 @@ import time
 
 from tools import TOP, expect, same
 
-# As rt: the stamp goes first and comes back on success; the program is there either way. What it says must reach no caller.
+# As rt: a stamp goes first and comes back on success, but not where a source changes meanwhile. What it says must reach no caller.
 RT = """#!/bin/sh
 echo "rt says $*"; echo "rt says it here too" >&2
 cat >/dev/null
 echo run >>"$RUNS"
-mkdir -p target/stamp target/bin
-rm -f "target/stamp/$2"
-cp "$PROGRAM" "target/bin/$2"
+name=${PWD##*/}
+cd ../..
+out=crates/$name/out
+mkdir -p "$out" crates/low/out/rlib
 [ -z "${SLOW-}" ] || sleep "$SLOW"
 [ -z "${EDIT-}" ] || echo more >>crates/bench/src/main.rt
-if grep -q bad crates/*/src/*; then echo "rt: bench NOT PROVED"; exit 1; fi
-for name in "$2" low; do cat "crates/$name/src/"* crates.txt | cksum >"target/stamp/$name"; done
+if grep -q bad crates/*/src/*; then echo "rt: $name NOT PROVED"; exit 1; fi
+cat crates/low/src/* crates.txt | cksum >crates/low/out/rlib/stamp
+rm -f "$out/$name.stamp"
+cp "$PROGRAM" "$out/$name"
+[ -n "${EDIT-}" ] || cat "crates/$name/src/"* crates.txt | cksum >"$out/$name.stamp"
 """
 
 # Says its words, one in brackets each, and what it finds on standard input; ends with the status that FAKE_STATUS asks for. With FAKE_OTHER, bench
 # leaves all of that to the other program.
 PROGRAM = """#!/usr/bin/env bash
-[ -z "${FAKE_OTHER-}" ] || [ "${0##*/}" != bench ] || { printf 3 >&3; exit; }
+[ -z "${FAKE_OTHER-}" ] || [ "${0##*/}" != bench ] || exit 3
 printf '[%s]' "$@" 2>/dev/null || failed=1
 [ -z "${FAKE_READS-}" ] || cat
 [ -z "${FAKE_WAITS-}" ] || sleep "$FAKE_WAITS"
-printf '%s' "${failed-${FAKE_STATUS-0}}" >&3
+[ "${FAKE_STATUS-0}" != killed ] || kill -KILL $$
+exit "${failed-${FAKE_STATUS-0}}"
 """
 
 
 # All that the two scripts and the tests call: the machine's own rt must not be among it.
-TOOLS = "awk bash cat cksum cp date dirname find flock grep head mkdir mv nproc readlink rm setpriv sh sha256sum sleep sort wc xargs".split()
+TOOLS = "awk bash cat cksum cp date dirname find flock grep head ln mkdir mktemp mv readlink rm setpriv sh sha256sum sleep sort wc xargs".split()
 
 
 class Checkout:
@@ -83,7 +89,8 @@ class Checkout:
         out, err = process.communicate(data, timeout=60)
         own = b"[--status][--sample][%s/samples/rp2350.img]" % self.top.encode()
         expect(out == b"" or out.startswith(own), "called as %r" % out[:200])
-        return process.returncode, out[len(own) :], err.decode().split("\n")[:-1], self.count() - before
+        out = re.sub(rb"^\[--link\]\[/[^]]*/file\]", b"", out[len(own) :])
+        return process.returncode, out, err.decode().split("\n")[:-1], self.count() - before
 
     def count(self):
         return len(open(self.runs).read().split()) if os.path.exists(self.runs) else 0
@@ -94,7 +101,7 @@ ANSWER = (0, b"[raw][0]", [], 0)
 
 def proves_once(c):
     same(c.run("raw", "0"), (0, b"[raw][0]", ["bench: proving 2 of 2 crates: once, some minutes"], 1), "the first run")
-    same(open(os.path.join(c.top, "target", "bench.log")).read(), "rt says check bench\nrt says it here too\n", "the log")
+    same(open(os.path.join(c.top, "target", "bench.log")).read(), "rt says run -- --version\nrt says it here too\n", "the log")
     same(c.run("raw", "0"), ANSWER, "the second run")
     # What is no part of the program makes no difference, nor do times alone.
     c.write("crates/other/src/lib.rt", "bad")
@@ -122,7 +129,7 @@ def sees_changes(c):
     same(c.run("raw", "0")[3], 1, "a new file")
     os.unlink(os.path.join(c.top, "crates/low/src/more.rt"))
     same(c.run("raw", "0")[3], 1, "a file less")
-    c.write("target/bin/bench", PROGRAM + "echo another program\n")
+    c.write("crates/bench/out/bench", PROGRAM + "echo another program\n")
     same(c.run("raw", "0"), (0, b"[raw][0]", [], 1), "another program in its place")
     same((c.run("raw", "0", EDIT="1")[:2], c.run("raw", "0")), ((0, b"[raw][0]"), ANSWER), "nothing to prove, so nothing changes on the way")
     c.write("crates/low/src/lib.rt", "low")
@@ -142,18 +149,18 @@ def failed_check(c):
     same(c.run("raw", "0", has_kit=False)[:2], (1, b""), "a failed check, and then no kit")
     c.write("crates/bench/src/main.rt", "main")
     same((c.run("raw", "0")[::3], c.run("raw", "0")), ((0, 1), ANSWER), "mended")
-    # A check by hand that fails counts too, though the sources are as they were again.
-    os.unlink(os.path.join(c.top, "target", "stamp", "bench"))
+    # So does a build by hand that was cut off.
+    os.unlink(os.path.join(c.top, "crates", "bench", "out", "bench.stamp"))
     same(c.run("raw", "0", has_kit=False)[:2], (1, b""), "no stamp, no run")
     same((c.run("raw", "0")[::3], c.run("raw", "0")), ((0, 1), ANSWER), "stamped again")
 
 
 def no_kit(c):
     same(c.run("raw", "0", has_kit=False), ANSWER, "no kit, and a proved program")
-    same(c.run("raw", "0", has_kit=False, shell='mv "$(dirname "$0")/target" away; "$0" "$@"'),
+    same(c.run("raw", "0", has_kit=False, shell='mv "$(dirname "$0")/crates/bench/out/bench" away; "$0" "$@"'),
          (1, b"", ["bench: the Rattle kit is missing (no rt on the PATH): see Install in %s/README.md" % c.top], 0),
          "no kit and no program")
-    os.rename(os.path.join(c.at, "away"), os.path.join(c.top, "target"))
+    os.rename(os.path.join(c.at, "away"), os.path.join(c.top, "crates", "bench", "out", "bench"))
 
 
 def lower(path, bits):
@@ -171,6 +178,7 @@ def read_only(c):
             os.unlink(os.path.join(top, "target", "bench.proved"))
         if not is_proved:
             shutil.rmtree(os.path.join(top, "target"))
+            shutil.rmtree(os.path.join(top, "crates", "bench", "out"))
         for folder, _, files in os.walk(top):
             lower(folder, 0o555)
             for file in files:
@@ -210,7 +218,7 @@ def passes_on(c):
     same(c.run("-", data=data, FAKE_READS="1"), (0, b"[-]" + data, [], 0), "bytes go in and out as they are")
     c.write("crates/bench/src/main.rt", "to be proved with a dump on standard input")
     same(c.run("-", data=data, FAKE_READS="1")[1], b"[-]" + data, "rt takes nothing of them")
-    for said, code in (("0", 0), ("1", 1), ("2", 2), ("", 1), ("4", 1), ("00", 1)):
+    for said, code in (("0", 0), ("1", 1), ("2", 2), ("4", 1), ("255", 1), ("killed", 1)):
         same(c.run("x", FAKE_STATUS=said), (code, b"[x]", [], 0), "status %r" % said)
     same(c.run("x", shell='"$0" "$@" >&-'), (1, b"", [], 0), "a closed output")
     same(c.run("x", shell='"$0" "$@" >/dev/full')[::3], (1, 0), "a full disk")
@@ -234,7 +242,7 @@ def other_program(c):
     c.write("crates/bench_bytes/src/main.rt", "bytes again")
     same(c.run("x"), (0, b"[x]", [], 0), "a report needs no bytes")
     same(c.run("-", data=b"dump", FAKE_OTHER="1", FAKE_READS="1"), (0, b"[-]dump", [second], 1), "the input is the other program's")
-    for said, code in (("1", 1), ("2", 2), ("", 1), ("3", 1)):
+    for said, code in (("1", 1), ("2", 2), ("killed", 1), ("3", 1)):
         same(c.run("x", FAKE_OTHER="1", FAKE_STATUS=said), (code, b"[x]", [], 0), "the other program's status %r" % said)
     c.write("crates/bench_bytes/src/main.rt", "bad")
     same(c.run("x", FAKE_OTHER="1")[:2], (1, b""), "a failed check of the other program")

@@ -5,7 +5,7 @@ import re
 import sys
 
 ROOT = os.path.join(os.path.dirname(os.path.abspath(__file__)), "..", "..")
-KIT = {"check", "libc", "io", "os", "bytes"}
+KIT = set()
 
 
 def text(name):
@@ -20,6 +20,7 @@ def main():
         if not line:
             continue
         name, uses = line.split(":")
+        name = name.split()[0]
         for use in uses.split():
             if use not in KIT and use not in above:
                 bad.append(f"{name} uses {use}, which does not stand above it")

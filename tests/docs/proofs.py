@@ -29,7 +29,7 @@ READING = [
 NOT_READ = {"Lib", "Laws", "Code", "Examples"}
 NO_DEFINITIONS = {"starred"}
 # Words in backquotes that name nothing of the sources.
-WORDS = {"ensures", "requires", "read", "write", "stdout"}
+WORDS = {"ensures", "requires", "read", "write", "stdout", "l"}
 
 
 def text(path):

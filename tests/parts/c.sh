@@ -1,20 +1,20 @@
 # The static library, called from C through include/onerom.h.
 
 test_c_library() {
-    rt staticlib onerom >target/staticlib.log 2>&1 || { tail -n 5 target/staticlib.log; return 1; }
-    [ -f target/staticlib/libonerom.a ]
+    tests/library >target/library.log 2>&1 || { tail -n 5 target/library.log; return 1; }
+    [ -f crates/onerom/out/libonerom.a ]
 }
 
 # The library keeps nothing: it has code and constants, no memory of its own, and calls nobody else.
 test_c_library_has_no_state() {
     needs nm
-    nm target/staticlib/libonerom.a >target/symbols && grep -q ' T onerom_open$' target/symbols &&
+    nm crates/onerom/out/libonerom.a >target/symbols && grep -q ' T onerom_open$' target/symbols &&
         ! awk 'NF > 1 && $(NF - 1) !~ /^[TtRr]$/' target/symbols | grep .
 }
 
 # c_test NAME [ARGUMENT]: tests/c/NAME.c says ok
 c_test() {
-    cc -std=c99 -Wall -Wextra -Werror -pedantic -Iinclude -o "target/c-$1" "tests/c/$1.c" target/staticlib/libonerom.a &&
+    cc -std=c99 -Wall -Wextra -Werror -pedantic -Iinclude -o "target/c-$1" "tests/c/$1.c" crates/onerom/out/libonerom.a &&
         "target/c-$1" ${2:+"$2"} >"target/c-$1.out" && grep -qx ok "target/c-$1.out" || { cat "target/c-$1.out"; return 1; }
 }
 
@@ -30,7 +30,7 @@ test_c_own() {
 # The first ROM row of every set, on boards of up to 255 sets: another reader's answers.
 test_c_rows() {
     needs python3
-    cc -std=c99 -Wall -Wextra -Werror -pedantic -Iinclude -o target/c-rows tests/c/rows.c target/staticlib/libonerom.a &&
+    cc -std=c99 -Wall -Wextra -Werror -pedantic -Iinclude -o target/c-rows tests/c/rows.c crates/onerom/out/libonerom.a &&
         python3 -B tests/c/rows.py target/c-rows
 }
 
@@ -45,19 +45,19 @@ test_c_numbers() {
 }
 
 test_c_header_in_cpp() {
-    c++ -std=c++11 -Wall -Wextra -Werror -pedantic -Wno-address -Iinclude -o target/c-cpp tests/c/header.cpp target/staticlib/libonerom.a && target/c-cpp
+    c++ -std=c++11 -Wall -Wextra -Werror -pedantic -Wno-address -Iinclude -o target/c-cpp tests/c/header.cpp crates/onerom/out/libonerom.a && target/c-cpp
 }
 
 # The examples, on a sample board: C's and Rust's say the same.
 test_c_example() {
-    cc -std=c99 -Wall -Wextra -Werror -Iinclude -o target/example-c examples/c/board.c target/staticlib/libonerom.a &&
+    cc -std=c99 -Wall -Wextra -Werror -Iinclude -o target/example-c examples/c/board.c crates/onerom/out/libonerom.a &&
         target/example-c samples/rp2350.img >target/example-c.out &&
         cmp target/example-c.out tests/data/example.txt
 }
 
 test_rust_example() {
     needs rustc
-    rustc --edition 2024 -D warnings -O -o target/example-rust examples/rust/board.rs -L target/staticlib -l static=onerom &&
+    rustc --edition 2024 -D warnings -O -o target/example-rust examples/rust/board.rs -L crates/onerom/out -l static=onerom &&
         target/example-rust samples/rp2350.img >target/example-rust.out &&
         cmp target/example-rust.out tests/data/example.txt
 }
@@ -85,14 +85,14 @@ test_c_example_full_disk() {
 test_rust_fields() {
     needs rustc
     c_test fields target/fields.img &&
-        rustc --edition 2024 -D warnings -o target/rust-fields tests/rust/fields.rs -L target/staticlib -l static=onerom &&
+        rustc --edition 2024 -D warnings -o target/rust-fields tests/rust/fields.rs -L crates/onerom/out -l static=onerom &&
         [ "$(target/rust-fields target/fields.img)" = ok ]
 }
 
 # The wrapper's read by the set's own ROMs, on the sample boards.
 test_rust_calls() {
     needs rustc
-    rustc --edition 2024 -D warnings -O -o target/rust-calls tests/rust/calls.rs -L target/staticlib -l static=onerom && [ "$(target/rust-calls)" = ok ]
+    rustc --edition 2024 -D warnings -O -o target/rust-calls tests/rust/calls.rs -L crates/onerom/out -l static=onerom && [ "$(target/rust-calls)" = ok ]
 }
 
 # The sample boards are what their generator makes.

@@ -15,23 +15,23 @@ gives() {
 HEAD='head 1 2 1 5 536870920 536870912 65536'
 
 test_runtime_r1() {
-    bytes $R1 | target/bin/runtime | gives "$HEAD|0.6.0 1 0 1 11 150 300 300|0.6.2 absent|0.6.3 absent|0.6.7 absent"
+    bytes $R1 | crates/runtime/out/runtime | gives "$HEAD|0.6.0 1 0 1 11 150 300 300|0.6.2 absent|0.6.3 absent|0.6.7 absent"
 }
 
 test_runtime_r2() {
-    bytes ${R1:0:66} | target/bin/runtime | gives "$HEAD|0.6.0 absent|0.6.2 absent|0.6.3 absent|0.6.7 absent"
+    bytes ${R1:0:66} | crates/runtime/out/runtime | gives "$HEAD|0.6.0 absent|0.6.2 absent|0.6.3 absent|0.6.7 absent"
 }
 
 test_runtime_r3() {
-    bytes ${R1:0:8}13${R1:10} | target/bin/runtime | gives "refused 61"
+    bytes ${R1:0:8}13${R1:10} | crates/runtime/out/runtime | gives "refused 61"
 }
 
 test_runtime_r4() {
-    bytes ${R1:0:54}20${R1:56} | target/bin/runtime | gives "$HEAD|0.6.0 absent|0.6.2 absent|0.6.3 absent|0.6.7 absent"
+    bytes ${R1:0:54}20${R1:56} | crates/runtime/out/runtime | gives "$HEAD|0.6.0 absent|0.6.2 absent|0.6.3 absent|0.6.7 absent"
 }
 
 test_runtime_empty_input() {
-    target/bin/runtime </dev/null | gives "refused 2"
+    crates/runtime/out/runtime </dev/null | gives "refused 2"
 }
 
 # Input that arrives one byte at a time is read to its end.
@@ -41,13 +41,13 @@ test_runtime_byte_by_byte() {
             bytes ${R1:$i:2}
             sleep 0.005
         done
-    ) | target/bin/runtime | gives "$HEAD|0.6.0 1 0 1 11 150 300 300|0.6.2 absent|0.6.3 absent|0.6.7 absent"
+    ) | crates/runtime/out/runtime | gives "$HEAD|0.6.0 1 0 1 11 150 300 300|0.6.2 absent|0.6.3 absent|0.6.7 absent"
 }
 
 # At most 64 bytes count: with all 64 and more behind them every group is judged by the first 64 alone.
 test_runtime_later_bytes_are_ignored() {
     local front=${R1:0:8}FF${R1:10:58}0102010801050000000000000000000000000000000003FFFFFFFFFFFFFF
-    (bytes $front; head -c 100000 /dev/zero) | target/bin/runtime |
+    (bytes $front; head -c 100000 /dev/zero) | crates/runtime/out/runtime |
         gives "$HEAD|0.6.0 1 0 1 11 150 300 300|0.6.2 1 2|0.6.3 1 8 1|0.6.7 5 3"
 }
 
@@ -55,7 +55,7 @@ test_runtime_later_bytes_are_ignored() {
 test_runtime_vectors_of_the_program() {
     local record lines n=0
     while IFS='|' read -r record lines; do
-        bytes "$record" | target/bin/runtime | gives "$lines" || { echo "record $record" >&2; return 1; }
+        bytes "$record" | crates/runtime/out/runtime | gives "$lines" || { echo "record $record" >&2; return 1; }
         n=$((n + 1))
     done <tests/data/runtime.txt
     [ $n -gt 200 ]
@@ -63,21 +63,21 @@ test_runtime_vectors_of_the_program() {
 
 # README's call, on the sample that the gate runs the program on too.
 test_runtime_sample() {
-    cmp samples/runtime.bin crates/runtime/stdin && target/bin/runtime <samples/runtime.bin | cmp - crates/runtime/stdout
+    cmp samples/runtime.bin crates/runtime/stdin && crates/runtime/out/runtime <samples/runtime.bin | cmp - crates/runtime/stdout
 }
 
 # says OUTPUT ERROR ARGUMENT...: what the program writes to standard output and to standard error, lines joined by '|'; its input is this function's
 says() {
     local out=$1 err=$2
     shift 2
-    target/bin/runtime "$@" 2>target/runtime.err | gives "$out" && gives "$err" <target/runtime.err
+    crates/runtime/out/runtime "$@" 2>target/runtime.err | gives "$out" && gives "$err" <target/runtime.err
 }
 
 # Help goes to standard error, on one screen; no record is read, and standard output stays empty.
 test_runtime_help() {
     local asked
     for asked in --help -h; do
-        target/bin/runtime "$asked" <samples/runtime.bin 2>target/runtime.err | cmp - /dev/null &&
+        crates/runtime/out/runtime "$asked" <samples/runtime.bin 2>target/runtime.err | cmp - /dev/null &&
             cmp target/runtime.err tests/data/runtime-help.txt || return 1
     done
     [ "$(wc -l <tests/data/runtime-help.txt)" -le 24 ] && [ "$(wc -L <tests/data/runtime-help.txt)" -le 80 ]
@@ -99,6 +99,6 @@ test_runtime_argument() {
 # What was not written is said.
 test_runtime_full_disk() {
     local what="runtime: standard output could not all be written"
-    target/bin/runtime <samples/runtime.bin 2>&1 >/dev/full | gives "$what: No space left on device" &&
-        target/bin/runtime <samples/runtime.bin 2>&1 >&- | gives "$what: Bad file descriptor"
+    crates/runtime/out/runtime <samples/runtime.bin 2>&1 >/dev/full | gives "$what: No space left on device" &&
+        crates/runtime/out/runtime <samples/runtime.bin 2>&1 >&- | gives "$what: Bad file descriptor"
 }

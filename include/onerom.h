@@ -20,9 +20,10 @@
 #include <stdint.h>
 
 /* The header's version. The major number goes up where a program that uses this header may have to change, the minor one where
- * something is added. ONEROM_VERSION puts both in one number, for #if. */
-#define ONEROM_VERSION_MAJOR 1
-#define ONEROM_VERSION_MINOR 1
+ * something is added. ONEROM_VERSION puts both in one number, for #if.
+ * 2.0: a ROM row has eight words, a string's part three, and a report's text its width. */
+#define ONEROM_VERSION_MAJOR 2
+#define ONEROM_VERSION_MINOR 0
 #define ONEROM_VERSION (ONEROM_VERSION_MAJOR * 1000 + ONEROM_VERSION_MINOR)
 
 /* The usual settings of a board: where its flash and its RAM stand, and the header's place in the flash. */
@@ -192,11 +193,22 @@ uint32_t onerom_runtime(const uint8_t *record, size_t record_len, uint32_t ram_b
  *
  * image[0 .. image_len)  the image, which starts at address base
  * pointer                the string's address
- * part                   offset in the image and length without the NUL, written where the string is accepted
+ * part                   ONEROM_PART_WORDS words, as in enum onerom_part_word, written where the string is accepted
  *
  * 1: base plus image length exceeds 2^32. 3: pointer below base. 2: a chunk ended before a NUL was found.
- * 20: 1,024 bytes, no NUL. 21: not UTF-8. */
-uint32_t onerom_string(const uint8_t *image, size_t image_len, uint32_t base, uint32_t pointer, uint32_t part[2]);
+ * 20: 1,024 bytes, no NUL. 21: not UTF-8.
+ *
+ * The width of a string, of a report's text and of a name is its number of code points: the characters as UTF-8 has them, however much room they
+ * take when shown. A combining mark counts by itself. The length is in bytes, and never below the width or above four times the width. */
+#define ONEROM_PART_WORDS 3
+
+enum onerom_part_word {
+    ONEROM_PART_OFFSET = 0, /* in the image */
+    ONEROM_PART_LENGTH = 1, /* in bytes, without the NUL */
+    ONEROM_PART_WIDTH = 2   /* in code points */
+};
+
+uint32_t onerom_string(const uint8_t *image, size_t image_len, uint32_t base, uint32_t pointer, uint32_t part[ONEROM_PART_WORDS]);
 
 /* ---- mangling and demangling */
 
@@ -234,8 +246,8 @@ enum onerom_control {
  * addr           its sixteen address pins
  * control        its control pins, as in enum onerom_control
  * served         the sets served
- * set_rows       lent set rows, eight words each; set_words of them in all
- * rom_rows       lent ROM rows, seven words each; rom_words of them in all
+ * set_rows       lent set rows, ONEROM_SET_WORDS words each; set_words of them in all
+ * rom_rows       lent ROM rows, ONEROM_ROM_WORDS words each; rom_words of them in all
  * levels         as in enum onerom_level
  * value          the offset, written where the address is accepted
  *
@@ -309,11 +321,12 @@ struct onerom_header {
     uint8_t boot_config[4];
 };
 
-/* A text, as a part of the image. number: 0 accepted, otherwise the string's number, with offset and length 0. */
+/* A text, as a part of the image. number: 0 accepted, otherwise the string's number, with offset, length and width 0. */
 struct onerom_text {
     uint8_t number;
     uint32_t offset;
     uint32_t length;
+    uint32_t width; /* in code points: characters as UTF-8 has them, a combining mark by itself */
 };
 
 /* Extra info. number: 0 accepted; 3 below base; 2 ended: then zeros, but PIO is not given (2) and the runtime pointer FFFFFFFF. */
@@ -424,11 +437,12 @@ enum onerom_rom_word {
     ONEROM_ROM_CS1 = 1,  /* enum onerom_state, so too CS2 and CS3 */
     ONEROM_ROM_CS2 = 2,
     ONEROM_ROM_CS3 = 3,
-    ONEROM_ROM_NAME_OFFSET = 4, /* in the image; offset and length are 0 where the reason is not */
-    ONEROM_ROM_NAME_LENGTH = 5,
-    ONEROM_ROM_NAME_REASON = 6 /* 0 named; ONEROM_NO_NAME; otherwise the string's number: 2, 20, 21 */
+    ONEROM_ROM_NAME_OFFSET = 4, /* in the image; offset, length and width are 0 where the reason is not */
+    ONEROM_ROM_NAME_LENGTH = 5, /* in bytes */
+    ONEROM_ROM_NAME_REASON = 6, /* 0 named; ONEROM_NO_NAME; otherwise the string's number: 2, 20, 21 */
+    ONEROM_ROM_NAME_WIDTH = 7   /* in code points */
 };
-#define ONEROM_ROM_WORDS 7
+#define ONEROM_ROM_WORDS 8
 
 /* A name's reason: no pointer was read, or one below base or FFFFFFFF. */
 #define ONEROM_NO_NAME 1
@@ -492,7 +506,8 @@ enum onerom_type {
  * set_rows, rom_rows      lent rows, set_words and rom_words words in all; only words of rows that are listed are written
  *
  * 1: either base plus image length exceeds 2^32. 2: header ended. 10: magic. 11: line. 12: storage. 13: version at or past 0.7.0.
- * 44: set rows short. 45: ROM rows short. Every other refusal is an item of the report. */
+ * 44: set rows short, fewer words than ONEROM_SET_WORDS for each set. 45: ROM rows short, fewer than ONEROM_ROM_WORDS for each ROM. Every other
+ * refusal is an item of the report. */
 struct onerom_opening onerom_open(const uint8_t *image, size_t image_len, uint32_t flash_base, uint32_t cs0_base,
                                   uint32_t info_offset, uint32_t *set_rows, size_t set_words, uint32_t *rom_rows,
                                   size_t rom_words);
@@ -500,7 +515,8 @@ struct onerom_opening onerom_open(const uint8_t *image, size_t image_len, uint32
 /* ---- calls on an opened board
  *
  * They go by the report and the rows as lent, altered or not: of the report by the line (ONEROM_LINE_RP2350 or any other), the pins
- * item and the sets served, and by nothing else of it. 4: a needed row isn't among those lent, or a needed type is above 33. */
+ * item and the sets served, and by nothing else of it. 4: a needed row isn't among those lent, or a needed type is above 33. A row is lent
+ * where all its words are; of a ROM row the calls look at the type alone. */
 
 /* The size of a set. 80: no such set. 4. */
 uint32_t onerom_get_rom_set_size(uint32_t served, const uint32_t *set_rows, size_t set_words, uint32_t set, uint32_t *value);

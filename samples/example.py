@@ -11,7 +11,8 @@ for i, s in enumerate(board.sets):
     # the socket sees what the ROM holds
     front, seen = (" ".join("%02x" % b for b in data[:4]) for data in (board.pins.set_data(s), s.roms[0].text()))
     roms = "%d ROM%s" % (len(s.roms), "" if len(s.roms) == 1 else "s")
-    print("set %d: %d bytes, %s, %s, starts %s, at its socket %s" % (i, s.size, roms, s.roms[0].name, front, seen))
+    name = s.roms[0].name
+    print("set %d: %d bytes, %s, %s (%d characters), starts %s, at its socket %s" % (i, s.size, roms, name, len(name), front, seen))
 for later, earlier in sorted(make.SAME.items(), key=lambda p: (p[1], p[0])):
     print("sets %d and %d are the same" % (earlier, later))
 print("%d bytes read" % (8 * len(board.sets)))

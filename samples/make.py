@@ -270,7 +270,7 @@ MIXED = Board(
     pins=Pins((1, 3, 3, 2, 2), [4, 6, 0, 2, 7, 1, 3, 5], 0, list(range(15)), (13, NO_PIN, NO_PIN), ce=15, oe=15, status=9, rom_pins=28),
     sets=[
         RomSet([Rom("lugsail.bin", ROM_2364, (LOW, UNUSED, UNUSED))], 16384, 1),
-        RomSet([Rom("gennaker.bin", ROM_27256, (UNUSED, UNUSED, UNUSED))], 32768, 1),
+        RomSet([Rom("g\u00e9nois.bin", ROM_27256, (UNUSED, UNUSED, UNUSED))], 32768, 1),
     ],
 )
 

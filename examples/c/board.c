@@ -87,14 +87,16 @@ static void print_text(FILE *to, const uint8_t *s, size_t n)
     }
 }
 
-/* A set's name is that of its first ROM, a part of the image. */
+/* A set's name is that of its first ROM, a part of the image; beside it how many characters it has, as stored. */
 static void print_name(const uint8_t *image, const uint32_t *set)
 {
     const uint32_t *rom = rom_rows + set[ONEROM_SET_FIRST_ROM] * ONEROM_ROM_WORDS;
-    if (set[ONEROM_SET_ROM_COUNT] != 0 && rom[ONEROM_ROM_NAME_REASON] == 0)
+    if (set[ONEROM_SET_ROM_COUNT] != 0 && rom[ONEROM_ROM_NAME_REASON] == 0) {
         print_text(stdout, image + rom[ONEROM_ROM_NAME_OFFSET], rom[ONEROM_ROM_NAME_LENGTH]);
-    else
+        printf(" (%" PRIu32 " character%s)", rom[ONEROM_ROM_NAME_WIDTH], rom[ONEROM_ROM_NAME_WIDTH] == 1 ? "" : "s");
+    } else {
         printf("(no name)");
+    }
 }
 
 static void print_same(uint32_t served)

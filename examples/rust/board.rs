@@ -46,6 +46,11 @@ fn at_socket(board: &mut Board, set: u32) -> Result<[u8; 4], Refused> {
     Ok(front)
 }
 
+/// A name's width, in words.
+fn characters(width: u32) -> String {
+    format!("{width} character{}", if width == 1 { "" } else { "s" })
+}
+
 fn hex(bytes: &[u8; 4]) -> String {
     format!("{:02x} {:02x} {:02x} {:02x}", bytes[0], bytes[1], bytes[2], bytes[3])
 }
@@ -61,7 +66,7 @@ fn list(image: &[u8]) -> Result<(), Refused> {
         let read = board.read(i, 0, &mut front);
         let seen = at_socket(&mut board, i);
         let name = if row[SET_ROM_COUNT] == 0 { None } else { board.name(row[SET_FIRST_ROM]) };
-        let name = name.map_or("(no name)".to_string(), |name| shown(name.as_bytes()));
+        let name = name.map_or("(no name)".to_string(), |(name, width)| format!("{} ({})", shown(name.as_bytes()), characters(width)));
         let plural = if row[SET_ROM_COUNT] == 1 { "" } else { "s" };
         print!("set {i}: {} bytes, {} ROM{plural}, {name}", row[SET_SIZE], row[SET_ROM_COUNT]);
         match read {

@@ -72,9 +72,17 @@ pub const ROM_CS3: usize = 3;
 pub const ROM_NAME_OFFSET: usize = 4;
 pub const ROM_NAME_LENGTH: usize = 5;
 pub const ROM_NAME_REASON: usize = 6;
-pub const ROM_WORDS: usize = 7;
+pub const ROM_NAME_WIDTH: usize = 7;
+pub const ROM_WORDS: usize = 8;
 /// A name's reason: no pointer was read, or one that leads nowhere.
 pub const NO_NAME: u32 = 1;
+
+// ---- the words of a string's part
+
+pub const PART_OFFSET: usize = 0;
+pub const PART_LENGTH: usize = 1;
+pub const PART_WIDTH: usize = 2;
+pub const PART_WORDS: usize = 3;
 
 // ---- serve
 
@@ -259,6 +267,8 @@ pub struct Text {
     pub number: u8,
     pub offset: u32,
     pub length: u32,
+    /// How many code points it has.
+    pub width: u32,
 }
 
 #[repr(C)]
@@ -332,13 +342,13 @@ struct Opening {
 }
 
 const _: () = assert!(size_of::<Header>() == 32);
-const _: () = assert!(size_of::<Text>() == 12);
+const _: () = assert!(size_of::<Text>() == 16);
 const _: () = assert!(size_of::<ExtraInfo>() == 16);
 const _: () = assert!(size_of::<Metadata>() == 2);
 const _: () = assert!(size_of::<Sets>() == 8);
 const _: () = assert!(size_of::<Pins>() == 78);
-const _: () = assert!(size_of::<Report>() == 164);
-const _: () = assert!(size_of::<Opening>() == 168);
+const _: () = assert!(size_of::<Report>() == 172);
+const _: () = assert!(size_of::<Opening>() == 176);
 
 impl Report {
     /// Each item's number; metadata's is 0 where it was not looked for.
@@ -355,6 +365,7 @@ impl Report {
 }
 
 unsafe extern "C" {
+    fn onerom_string(image: *const u8, image_len: usize, base: u32, pointer: u32, part: *mut u32) -> u32;
     fn onerom_open(
         image: *const u8,
         image_len: usize,
@@ -436,6 +447,19 @@ fn accepted(number: u32) -> Result<(), Refused> {
     if number == ACCEPTED { Ok(()) } else { Err(Refused(number)) }
 }
 
+/// A part of the image that the library took for a string.
+fn text_at(image: &[u8], offset: u32, length: u32) -> Option<&str> {
+    std::str::from_utf8(image.get(offset as usize..)?.get(..length as usize)?).ok()
+}
+
+/// The string at a pointer of an image that starts at a base, and its width: how many code points it has.
+pub fn string(image: &[u8], base: u32, pointer: u32) -> Result<(&str, u32), Refused> {
+    let mut part = [0; PART_WORDS];
+    accepted(unsafe { onerom_string(image.as_ptr(), image.len(), base, pointer, part.as_mut_ptr()) })?;
+    let text = text_at(image, part[PART_OFFSET], part[PART_LENGTH]);
+    Ok((text.expect("an accepted string is UTF-8, and a part of the image"), part[PART_WIDTH]))
+}
+
 /// An opened board: the image, its report, its rows, and the served count.
 pub struct Board<'a> {
     image: &'a [u8],
@@ -479,11 +503,16 @@ impl<'a> Board<'a> {
         self.rom_rows.get(ROM_WORDS * row as usize..)?.get(..ROM_WORDS)
     }
 
-    /// The name of a ROM row, a part of the image.
-    pub fn name(&self, row: u32) -> Option<&'a str> {
+    /// The name of a ROM row, a part of the image, and its width: how many code points it has.
+    pub fn name(&self, row: u32) -> Option<(&'a str, u32)> {
         let rom = self.rom(row)?;
-        let part = self.image.get(rom[ROM_NAME_OFFSET] as usize..)?.get(..rom[ROM_NAME_LENGTH] as usize)?;
-        (rom[ROM_NAME_REASON] == 0).then(|| std::str::from_utf8(part).ok())?
+        let text = text_at(self.image, rom[ROM_NAME_OFFSET], rom[ROM_NAME_LENGTH])?;
+        (rom[ROM_NAME_REASON] == 0).then_some((text, rom[ROM_NAME_WIDTH]))
+    }
+
+    /// A text of the report, the build date or the revision, in the same way.
+    pub fn text(&self, text: Text) -> Option<(&'a str, u32)> {
+        (text.number == 0).then_some((text_at(self.image, text.offset, text.length)?, text.width))
     }
 
     pub fn same_set(&self, a: u32, b: u32) -> Result<bool, Refused> {

@@ -6,6 +6,7 @@ from refusals import refused_items, refused_openings, refused_reads
 from tools import expect, put, run
 
 WIDTH = 80
+LONGEST = "a" * 1023  # a name
 
 
 def wide_numbers():
@@ -23,6 +24,7 @@ def wide_numbers():
         pins_with((5, bytes([40])), (8, high[:55]), (63, b"\1")),
         changed((("set", 0), 4, b"\xff\xff\xff\xff"), (("set", 1), 0, b"\xff" * 4), (("set", 2), 16, b"\xee" * 8)),
         metadata_with(16, b"\xff"),
+        bytes(board_of([make.RomSet([make.Rom(LONGEST, make.ROM_2316, (make.HIGH,) * 3)], 2048, 1)]).image().bytes),
     ]
 
 
@@ -42,10 +44,10 @@ def several_kinds():
 
 
 def fits(at, words):
-    """A word of the command line does not count where a line shows it, unless it is a number."""
+    """A word of the command line does not count where a line shows it, unless it is a number; nor does the longest name."""
     for to, text in zip(("output", "error"), run(at, *words)):
         for line in text.decode().split("\n"):
-            shown = [word for word in words if not word.isdigit() and word in line]
+            shown = [word for word in (*words, LONGEST) if not word.isdigit() and word in line]
             width = len(line) - max(map(len, shown), default=0)
             expect(width <= WIDTH, "bench %r, standard %s: %d columns\n%s" % (words, to, width, line))
 

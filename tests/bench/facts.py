@@ -1,7 +1,8 @@
-"""A script's facts of each sample are what make.py put into it."""
+"""A script's facts of each sample, and of a board whose texts are not ASCII, are what was put into it."""
 import struct
 
 import make
+from made import accented
 from tools import expect, facts_of, same
 
 # By number, as the Rust prints them.
@@ -20,6 +21,11 @@ def equal_or_not(one, other):
     return "equal" if one == other else "differ"
 
 
+def characters(text):
+    """How a person is told the number of a text's characters."""
+    return "1 character" if len(text) == 1 else "%d characters" % len(text)
+
+
 def set_facts(board, image, i, s, same_as):
     key = "set.%d." % i
     address = struct.unpack_from("<I", image.bytes, board.at["set", i] - board.base)[0]
@@ -28,7 +34,7 @@ def set_facts(board, image, i, s, same_as):
     for k, rom in enumerate(s.roms):
         facts.append(("rom.%d.type" % k, TYPES[rom.kind]))
         facts += [("rom.%d.cs%d" % (k, n + 1), STATE[c]) for n, c in enumerate(rom.cs)]
-        facts += [("rom.%d.name.number" % k, 0), ("rom.%d.name.text" % k, rom.name)]
+        facts += [("rom.%d.name.number" % k, 0), ("rom.%d.name.text" % k, rom.name), ("rom.%d.name.width" % k, len(rom.name))]
     if same_as is not None:
         other = board.sets[same_as]
         names, data = ([rom.name for rom in a.roms] for a in (s, other)), (board.pins.set_data(a) for a in (s, other))
@@ -54,7 +60,8 @@ def board_facts(board, same_as):
     facts = [("dump.bytes", len(image.bytes)), ("firmware.version", "%d.%d.%d" % version[:3]), ("firmware.build", version[3])]
     facts += [("mcu.line", LINES[board.line]), ("mcu.storage", STORAGES[board.storage][0]), ("mcu.kib", STORAGES[board.storage][1])]
     facts += [("mcu.mhz", board.mhz), ("firmware.commit", board.commit.rstrip(b"\0").decode())]
-    facts += [("build_date.number", 0), ("build_date.text", board.date), ("hw_rev.number", 0), ("hw_rev.text", board.revision)]
+    for key, text in (("build_date", board.date), ("hw_rev", board.revision)):
+        facts += [(key + ".number", 0), (key + ".text", text), (key + ".width", len(text))]
     facts += [("flag." + name, bit) for name, bit in zip(FLAGS, board.flags)] + [("flag.access_count", board.counting)]
     facts += [("boot_config", " ".join(map(str, board.boot_config)))]
     facts += [("extra.number", 0), ("extra.usb_dfu", dfu), ("extra.usb_port", PORT[port]), ("extra.vbus_pin", vbus)]
@@ -71,6 +78,8 @@ def board_facts(board, same_as):
 def facts(at):
     for name, board, same_as in (("stm32", make.STM32, {}), ("rp2350", make.RP2350, make.SAME), ("multi", make.MULTI, {}), ("mixed", make.MIXED, {})):
         same(facts_of(at, "samples/%s.img" % name), board_facts(board, same_as), name)
+    board = accented()
+    same(facts_of(at, "made/accented.img"), board_facts(board, {i: 0 for i in range(1, len(board.sets))}), "accented")
     damaged = dict(facts_of(at, "samples/damaged.img"))
     for key, value in dict(board_facts(make.RP2350, make.SAME)).items():
         if key in make.DAMAGE:

@@ -23,6 +23,14 @@ def one_rom_sets(names, serves):
     return bytes(board_of([make.RomSet([make.Rom(n, make.ROM_2316)], 2048, s) for n, s in zip(names, serves)]).image().bytes)
 
 
+def accented():
+    """A board whose texts have characters of one byte to four. A combining mark is one by itself."""
+    names = ["A", "\u00e9", "\u20ac", "\U0001f600", "e\u0301", "", "grand-voile \u00e0 corne.bin"]
+    board = board_of([make.RomSet([make.Rom(name, make.ROM_2316)], 2048, 1) for name in names])
+    board.date, board.revision = "12 f\u00e9vrier 2026", "\u20ac e\u0301 \U0001f600"
+    return board
+
+
 def uf2(data):
     """The bytes in a UF2 file's blocks of 512, 256 of them in each."""
     parts = [data[n : n + 256] for n in range(0, len(data), 256)]
@@ -47,6 +55,7 @@ def made():
         "cut3000.img": whole[:3000],
         "newer.img": changed(("header", 4, struct.pack("<4H", 0, 7, 0, 0))),
         "odd.img": one_rom_sets(odd, [1] * 6),
+        "accented.img": bytes(accented().image().bytes),
         "three.img": one_rom_sets(["genoa.bin"] * 4, [1, 2, 1, 1]),
         "board.uf2": uf2(whole),
         "large.uf2": uf2(whole + bytes(2**20)),

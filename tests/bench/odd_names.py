@@ -1,11 +1,16 @@
-"""Names that could deceive who reads them, in a dump and on the command line."""
+"""Names that could deceive who reads them, in a dump and on the command line; and how wide a name is."""
 import os
 import shutil
+import struct
 
+import make
 from calls import SAMPLE, call
-from made import one_rom_sets
-from tools import TOP, facts_of, put, run, same, words_of_numbers
+from facts import characters
+from made import changed, one_rom_sets
+from tools import TOP, expect, facts_of, put, run, same, words_of_numbers
 
+# The chip selects of every ROM here.
+SELECTS = "CS1 active low, CS2 active low, CS3 active low"
 # A name as UTF-8 has it, and how it is shown.
 NAMES = [
     ("two\nlines", r"two\x0alines"),
@@ -26,6 +31,10 @@ NAMES = [
     ("\u205f\u2065\u206a\ufefe\uff00", "\u205f\u2065\u206a\ufefe\uff00"),
     ("\u00a0\U0001f6a2\U0010ffff", "\u00a0\U0001f6a2\U0010ffff"),
 ]
+# Names that are shown as they are: of characters of one byte to four, with a combining mark, of no character, the longest there can be; and some that
+# say a width themselves.
+PLAIN = ["A", "\u00e9", "\u20ac", "\U0001f600", "e\u0301", "", "\u00e9" * 511 + "a", "a" * 1023]
+PLAIN += ["jib.bin (9 characters)", "1 character; CS1 not used, "]
 # Bytes of a file name that are no UTF-8, and how they are shown.
 BYTES = [
     (b"a\xff", r"a\xff"),
@@ -41,12 +50,37 @@ BYTES = [
 
 
 def in_the_dump(at):
-    file = put(at, "names.img", one_rom_sets([name for name, _ in NAMES], [1] * len(NAMES)))
+    """A name is shown, and how many characters it has: of the name itself, not of what is shown."""
+    names = NAMES + [(name, name) for name in PLAIN]
+    file = put(at, "names.img", one_rom_sets([name for name, _ in names], [1] * len(names)))
     facts = dict(facts_of(at, file))
-    lines = [line.split(", file ", 1)[1] for line in run(at, file)[0].decode().split("\n") if line.startswith("  ROM 0: ")]
-    for i, (name, shown) in enumerate(NAMES):
+    lines = roms_of(at, file)
+    for i, (name, shown) in enumerate(names):
         same(facts["set.%d.rom.0.name.text" % i], shown, "the name %a for a script" % name)
-        same(lines[i], shown, "the name %a for a person" % name)
+        same(facts["set.%d.rom.0.name.width" % i], str(len(name)), "the width of %a for a script" % name)
+        same(lines[i], ("2316, file " + shown, characters(name) + "; " + SELECTS), "the name %a for a person" % name)
+
+
+def roms_of(at, file):
+    """What a person is told of each set's first ROM: its line and the one below, without what stands in front."""
+    lines = run(at, file)[0].decode().split("\n")
+    return [(line[9:], below[9:]) for line, below in zip(lines, lines[1:]) if line.startswith("  ROM 0: ") and below.startswith(" " * 9)]
+
+
+def without_a_name(at):
+    """Where there is no name, nothing says how wide it is."""
+    table = words_of_numbers()
+    base, whole = make.RP2350.base, changed()
+    stored = struct.unpack_from("<I", whole, make.RP2350.at["set", 0] - base)[0]  # there is no NUL in what a set stores
+    pointers = ((1, make.NONE), (1, base - 1), (2, base + len(whole) - 1), (20, stored))
+    cases = [(number, changed((("rom", 0, 0), 4, struct.pack("<I", pointer)))) for number, pointer in pointers]
+    for number, image in cases + [(21, changed((("name", 0, 0), 0, b"\xc0\x80\0")))]:
+        file = put(at, "no_name.img", image)
+        facts = dict(facts_of(at, file))
+        same(facts["set.0.rom.0.name.number"], str(number), "no name, for a script")
+        expect("set.0.rom.0.name.width" not in facts and facts["set.1.rom.0.name.width"] == "12", "%d: a width for a script" % number)
+        why = "none is stored" if number == 1 else table[number]
+        same(roms_of(at, file)[0], ("2316, no name (%d: %s)" % (number, why), SELECTS), "%d: no name, for a person" % number)
 
 
 def on_the_command_line(at):
@@ -65,4 +99,5 @@ def on_the_command_line(at):
 
 def odd(at):
     in_the_dump(at)
+    without_a_name(at)
     on_the_command_line(at)

@@ -6,7 +6,7 @@ import time
 
 import make
 from calls import call, refused
-from facts import TYPES, board_facts
+from facts import TYPES, board_facts, characters
 from made import board_of
 from tools import expect, put, same, words_of_numbers
 
@@ -65,15 +65,16 @@ def script_facts(got, what):
 
 
 def person_is_told(got, board, what):
-    """Each set with its ROM count, each ROM with type and name, and which sets are the same."""
+    """Each set with its ROM count, each ROM with type, name and width, and which sets are the same."""
     code, out, err = got
     same((code, err), (0, b""), what)
-    said = re.findall(r"^set (\d+): .*, (\d+) ROMs?, |^  ROM (\d+): (.*), file (.*)$|^sets (\d+) and (\d+) are the same ", out.decode(), re.M)
+    forms = r"^set (\d+): .*, (\d+) ROMs?, |^  ROM (\d+): (.*), file (.*)\n {9}(.*); CS1 |^sets (\d+) and (\d+) are the same "
+    said = re.findall(forms, out.decode(), re.M)
     wanted = []
     for i, s in enumerate(board.sets):
-        wanted.append((str(i), str(len(s.roms)), "", "", "", "", ""))
-        wanted += [("", "", str(k), TYPES[rom.kind], rom.name, "", "") for k, rom in enumerate(s.roms)]
-    wanted += [("", "", "", "", "", str(first), str(i)) for i, first in same_as(board).items()]
+        wanted.append((str(i), str(len(s.roms)), "", "", "", "", "", ""))
+        wanted += [("", "", str(k), TYPES[rom.kind], rom.name, characters(rom.name), "", "") for k, rom in enumerate(s.roms)]
+    wanted += [("", "", "", "", "", "", str(first), str(i)) for i, first in same_as(board).items()]
     same_each(said, wanted, what)
     expect(b"\nSets               %d\n" % SETS in out, what + ": their number")
 

@@ -101,5 +101,6 @@ def refused_item(at, number, words, item, image):
     file = put(at, "item.img", image)
     got = dict(facts_of(at, file))
     same((got[item + ".number"], got[item + ".reason"]), (str(number), words), "%s refused with %d" % (item, number))
+    expect(item + ".text" not in got and item + ".width" not in got, "%s refused with %d, and shown" % (item, number))
     out, err = run(at, file)
     expect(err == b"" and ("refused with %d: %s\n" % (number, words)).encode() in out, "%s refused with %d, for a person" % (item, number))

@@ -35,7 +35,8 @@ def names(program, at):
     board = made.one_rom_sets([name for name, _ in NAMES], [1] * len(NAMES))
     status, out, err = run(program, put(at, "names.img", board))
     got = [line.split(" bytes, ")[1].rsplit(", starts ")[0] for line in out.split("\n") if line.startswith("set ")]
-    same((status, err, got), (0, "", ["1 ROM, " + shown for _, shown in NAMES]), "names")
+    # the width is the name's as it is stored: Python counts code points too
+    same((status, err, got), (0, "", ["1 ROM, %s (%d character%s)" % (shown, len(name), "" if len(name) == 1 else "s") for name, shown in NAMES]), "names")
 
 
 def counts(program, at):
@@ -43,7 +44,7 @@ def counts(program, at):
     status, out, err = run(program, put(at, "counts.img", bytes(board.image().bytes)))
     lines = [line for line in out.split("\n") if line.startswith("set ")]
     got = [line.rsplit(", starts ")[0] for line in lines]
-    same((status, err, got), (0, "", ["set 0: 64 bytes, 0 ROMs, (no name)", "set 1: 2048 bytes, 2 ROMs, jib.bin"]), "ROMs are counted")
+    same((status, err, got), (0, "", ["set 0: 64 bytes, 0 ROMs, (no name)", "set 1: 2048 bytes, 2 ROMs, jib.bin (7 characters)"]), "ROMs are counted")
     # each set by its own ROMs: none, and two on a board that has no X1 and X2
     got = [line.split(", at its socket ")[1] for line in lines]
     same(got, ["refused 74: the set that governs has no ROM", "refused 72: X1 or X2 is not on one of the sixteen pins that are read"], "refused at the socket")

@@ -16,6 +16,10 @@ static void expect(int ok, const char *what) {
 #define FLASH 0x08000000u
 #define CS0 0x10000000u
 
+/* the words of a row */
+#define SET_ROW ONEROM_SET_WORDS
+#define ROM_ROW ONEROM_ROM_WORDS
+
 static void put16(uint8_t *at, uint32_t v) {
     at[0] = (uint8_t)v;
     at[1] = (uint8_t)(v >> 8);

@@ -7,13 +7,13 @@
 #define HOLDS(name, fact) typedef char name[(fact) ? 1 : -1]
 
 HOLDS(header_size, sizeof(struct onerom_header) == 32);
-HOLDS(text_size, sizeof(struct onerom_text) == 12);
+HOLDS(text_size, sizeof(struct onerom_text) == 16);
 HOLDS(extra_info_size, sizeof(struct onerom_extra_info) == 16);
 HOLDS(metadata_size, sizeof(struct onerom_metadata) == 2);
 HOLDS(sets_size, sizeof(struct onerom_sets) == 8);
 HOLDS(pins_size, sizeof(struct onerom_pins) == 78);
-HOLDS(report_size, sizeof(struct onerom_report) == 164);
-HOLDS(opening_size, sizeof(struct onerom_opening) == 168);
+HOLDS(report_size, sizeof(struct onerom_report) == 172);
+HOLDS(opening_size, sizeof(struct onerom_opening) == 176);
 HOLDS(report_at, offsetof(struct onerom_opening, report) == 4);
 
 enum {
@@ -33,18 +33,18 @@ enum {
     /* behind the image: what is expected where the report does not show a record's bytes */
     NOTES = LENGTH,
     DATE_PART = NOTES,
-    REV_PART = NOTES + 12,
-    EXTRA_NUMBER = NOTES + 24,
-    PIO = NOTES + 25,
-    LOOKED_FOR = NOTES + 26,
-    METADATA_NUMBER = NOTES + 27,
-    SETS_NUMBER = NOTES + 28,
-    COUNT = NOTES + 29,
-    SERVED = NOTES + 32,
-    PINS_NUMBER = NOTES + 36,
-    DATA2 = NOTES + 37,
-    ADDR2 = NOTES + 45,
-    END = NOTES + 64
+    REV_PART = NOTES + 16,
+    EXTRA_NUMBER = NOTES + 32,
+    PIO = NOTES + 33,
+    LOOKED_FOR = NOTES + 34,
+    METADATA_NUMBER = NOTES + 35,
+    SETS_NUMBER = NOTES + 36,
+    COUNT = NOTES + 37,
+    SERVED = NOTES + 40,
+    PINS_NUMBER = NOTES + 44,
+    DATA2 = NOTES + 45,
+    ADDR2 = NOTES + 53,
+    END = NOTES + 72
 };
 
 static uint8_t board[END];
@@ -77,55 +77,57 @@ static const struct field {
     FIELD(build_date.number, 32, 1, DATE_PART),
     FIELD(build_date.offset, 36, 4, DATE_PART + 4),
     FIELD(build_date.length, 40, 4, DATE_PART + 8),
-    FIELD(hw_rev.number, 44, 1, REV_PART),
-    FIELD(hw_rev.offset, 48, 4, REV_PART + 4),
-    FIELD(hw_rev.length, 52, 4, REV_PART + 8),
-    FIELD(extra_info.number, 56, 1, EXTRA_NUMBER),
-    FIELD(extra_info.usb_dfu, 57, 1, EXTRA + 4),
-    FIELD(extra_info.usb_port, 58, 1, EXTRA + 5),
-    FIELD(extra_info.vbus_pin, 59, 1, EXTRA + 6),
-    FIELD(extra_info.fire_pio_default, 60, 1, PIO),
-    FIELD(extra_info.rtt_ptr, 64, 4, EXTRA + 0),
-    FIELD(extra_info.runtime_info_ptr, 68, 4, EXTRA + 8),
-    FIELD(metadata.looked_for, 72, 1, LOOKED_FOR),
-    FIELD(metadata.number, 73, 1, METADATA_NUMBER),
-    FIELD(rom_sets.number, 76, 1, SETS_NUMBER),
-    FIELD(rom_sets.rom_set_count, 77, 1, COUNT),
-    FIELD(rom_sets.served, 80, 4, SERVED),
-    FIELD(pins.number, 84, 1, PINS_NUMBER),
-    FIELD(pins.data_port, 85, 1, PINS + 0),
-    FIELD(pins.addr_port, 86, 1, PINS + 1),
-    FIELD(pins.cs_port, 87, 1, PINS + 2),
-    FIELD(pins.sel_port, 88, 1, PINS + 3),
-    FIELD(pins.status_port, 89, 1, PINS + 4),
-    FIELD(pins.rom_pins, 90, 1, PINS + 5),
-    FIELD(pins.data, 91, 8, PINS + 8),
-    FIELD(pins.addr, 99, 16, PINS + 16),
-    FIELD(pins.cs1, 115, 1, PINS + 36),
-    FIELD(pins.cs2, 116, 1, PINS + 37),
-    FIELD(pins.cs3, 117, 1, PINS + 38),
-    FIELD(pins.reserved2a, 118, 1, PINS + 39),
-    FIELD(pins.reserved2b, 119, 1, PINS + 40),
-    FIELD(pins.reserved2c, 120, 1, PINS + 41),
-    FIELD(pins.x1, 121, 1, PINS + 42),
-    FIELD(pins.x2, 122, 1, PINS + 43),
-    FIELD(pins.ce, 123, 1, PINS + 44),
-    FIELD(pins.oe, 124, 1, PINS + 45),
-    FIELD(pins.x_jumper_pull, 125, 1, PINS + 46),
-    FIELD(pins.swclk_sel, 126, 1, PINS + 50),
-    FIELD(pins.swdio_sel, 127, 1, PINS + 51),
-    FIELD(pins.sel0, 128, 1, PINS + 52),
-    FIELD(pins.sel1, 129, 1, PINS + 53),
-    FIELD(pins.sel2, 130, 1, PINS + 54),
-    FIELD(pins.sel3, 131, 1, PINS + 55),
-    FIELD(pins.sel4, 132, 1, PINS + 56),
-    FIELD(pins.sel5, 133, 1, PINS + 57),
-    FIELD(pins.sel6, 134, 1, PINS + 58),
-    FIELD(pins.sel_jumper_pull, 135, 1, PINS + 59),
-    FIELD(pins.status, 136, 1, PINS + 60),
-    FIELD(pins.extended, 137, 1, PINS + 63),
-    FIELD(pins.data2, 138, 8, DATA2),
-    FIELD(pins.addr2, 146, 16, ADDR2),
+    FIELD(build_date.width, 44, 4, DATE_PART + 12),
+    FIELD(hw_rev.number, 48, 1, REV_PART),
+    FIELD(hw_rev.offset, 52, 4, REV_PART + 4),
+    FIELD(hw_rev.length, 56, 4, REV_PART + 8),
+    FIELD(hw_rev.width, 60, 4, REV_PART + 12),
+    FIELD(extra_info.number, 64, 1, EXTRA_NUMBER),
+    FIELD(extra_info.usb_dfu, 65, 1, EXTRA + 4),
+    FIELD(extra_info.usb_port, 66, 1, EXTRA + 5),
+    FIELD(extra_info.vbus_pin, 67, 1, EXTRA + 6),
+    FIELD(extra_info.fire_pio_default, 68, 1, PIO),
+    FIELD(extra_info.rtt_ptr, 72, 4, EXTRA + 0),
+    FIELD(extra_info.runtime_info_ptr, 76, 4, EXTRA + 8),
+    FIELD(metadata.looked_for, 80, 1, LOOKED_FOR),
+    FIELD(metadata.number, 81, 1, METADATA_NUMBER),
+    FIELD(rom_sets.number, 84, 1, SETS_NUMBER),
+    FIELD(rom_sets.rom_set_count, 85, 1, COUNT),
+    FIELD(rom_sets.served, 88, 4, SERVED),
+    FIELD(pins.number, 92, 1, PINS_NUMBER),
+    FIELD(pins.data_port, 93, 1, PINS + 0),
+    FIELD(pins.addr_port, 94, 1, PINS + 1),
+    FIELD(pins.cs_port, 95, 1, PINS + 2),
+    FIELD(pins.sel_port, 96, 1, PINS + 3),
+    FIELD(pins.status_port, 97, 1, PINS + 4),
+    FIELD(pins.rom_pins, 98, 1, PINS + 5),
+    FIELD(pins.data, 99, 8, PINS + 8),
+    FIELD(pins.addr, 107, 16, PINS + 16),
+    FIELD(pins.cs1, 123, 1, PINS + 36),
+    FIELD(pins.cs2, 124, 1, PINS + 37),
+    FIELD(pins.cs3, 125, 1, PINS + 38),
+    FIELD(pins.reserved2a, 126, 1, PINS + 39),
+    FIELD(pins.reserved2b, 127, 1, PINS + 40),
+    FIELD(pins.reserved2c, 128, 1, PINS + 41),
+    FIELD(pins.x1, 129, 1, PINS + 42),
+    FIELD(pins.x2, 130, 1, PINS + 43),
+    FIELD(pins.ce, 131, 1, PINS + 44),
+    FIELD(pins.oe, 132, 1, PINS + 45),
+    FIELD(pins.x_jumper_pull, 133, 1, PINS + 46),
+    FIELD(pins.swclk_sel, 134, 1, PINS + 50),
+    FIELD(pins.swdio_sel, 135, 1, PINS + 51),
+    FIELD(pins.sel0, 136, 1, PINS + 52),
+    FIELD(pins.sel1, 137, 1, PINS + 53),
+    FIELD(pins.sel2, 138, 1, PINS + 54),
+    FIELD(pins.sel3, 139, 1, PINS + 55),
+    FIELD(pins.sel4, 140, 1, PINS + 56),
+    FIELD(pins.sel5, 141, 1, PINS + 57),
+    FIELD(pins.sel6, 142, 1, PINS + 58),
+    FIELD(pins.sel_jumper_pull, 143, 1, PINS + 59),
+    FIELD(pins.status, 144, 1, PINS + 60),
+    FIELD(pins.extended, 145, 1, PINS + 63),
+    FIELD(pins.data2, 146, 8, DATA2),
+    FIELD(pins.addr2, 154, 16, ADDR2),
 };
 #define FIELDS (sizeof fields / sizeof fields[0])
 #define PADDING 15
@@ -151,10 +153,11 @@ static void same(const struct onerom_report *r, const uint8_t *expected, const c
     }
 }
 
-static void note_part(uint32_t at, uint32_t number, uint32_t offset, uint32_t length) {
+static void note_part(uint32_t at, uint32_t number, uint32_t offset, uint32_t length, uint32_t width) {
     put32(board + at, number);
     put32(board + at + 4, offset);
     put32(board + at + 8, length);
+    put32(board + at + 12, width);
 }
 
 /* Two sets, of 2 and of 3 ROMs, at stride 64. */
@@ -180,10 +183,10 @@ static void put_sets(void) {
         rom[3] = (uint8_t)((1 + i) % 3);
         put32(rom + 4, i == 3 ? ONEROM_NO_POINTER : FLASH + NAME + i);
     }
-    memcpy(board + NAME, "mainsail", 9);
+    memcpy(board + NAME, "mains\xC3\xA9l", 9);
 }
 
-/* Firmware 0.6 on an F401BC. The bytes of its records differ, as far as they are free. */
+/* Firmware 0.6 on an F401BC. The bytes of its records differ, as far as they are free, and its texts have more bytes than characters. */
 static void make(void) {
     uint8_t *h = board + HEADER;
     memset(board, 0, END);
@@ -202,8 +205,8 @@ static void make(void) {
     put32(h + 48, FLASH + PINS);
     memcpy(h + 52, "\x51\x52\x53\x54", 4);
     put32(h + 56, FLASH + EXTRA);
-    memcpy(board + DATE, "2026-01-02", 11);
-    memcpy(board + REV, "fields", 7);
+    memcpy(board + DATE, "5 ao\xC3\xBBt 2026", 13);
+    memcpy(board + REV, "pi\xC3\xA8" "ce", 7);
     put32(board + EXTRA, 0x64636261);
     board[EXTRA + 5] = 3;
     board[EXTRA + 6] = 0x65;
@@ -217,8 +220,8 @@ static void make(void) {
     memcpy(board + PINS, "\5\2\4\0\3", 5);
     board[PINS + 63] = 1;
 
-    note_part(DATE_PART, 0, DATE, 10);
-    note_part(REV_PART, 0, REV, 6);
+    note_part(DATE_PART, 0, DATE, 12, 11);
+    note_part(REV_PART, 0, REV, 6, 5);
     board[LOOKED_FOR] = 1;
     board[COUNT] = 2;
     put32(board + SERVED, 2);
@@ -341,10 +344,10 @@ static void refused_openings(void) {
     o = onerom_open(board, HEADER + 63, FLASH, CS0, HEADER, rows[0], 64, rows[1], 64);
     expect(o.number == 2, "opening refused with 2");
     same(&o.report, expected, "opening refused with 2");
-    o = onerom_open(board, LENGTH, FLASH, CS0, HEADER, rows[0], 15, rows[1], 64);
+    o = onerom_open(board, LENGTH, FLASH, CS0, HEADER, rows[0], 2 * SET_ROW - 1, rows[1], 64);
     expect(o.number == 44, "opening refused with 44");
     same(&o.report, expected, "opening refused with 44");
-    o = onerom_open(board, LENGTH, FLASH, CS0, HEADER, rows[0], 64, rows[1], 34);
+    o = onerom_open(board, LENGTH, FLASH, CS0, HEADER, rows[0], 64, rows[1], 5 * ROM_ROW - 1);
     expect(o.number == 45, "opening refused with 45");
     same(&o.report, expected, "opening refused with 45");
 }
@@ -364,21 +367,32 @@ static void row_words(void) {
     make();
     opened();
     for (uint32_t i = 0; i < 2; i++) {
-        const uint32_t *s = rows[0] + ONEROM_SET_WORDS * i;
+        const uint32_t *s = rows[0] + SET_ROW * i;
         expect(s[ONEROM_SET_DATA_POINTER] == FLASH + 0x10203 + i && s[ONEROM_SET_SIZE] == 0x40506 + i, "set row: data pointer, size");
         expect(s[ONEROM_SET_FIRST_ROM] == 2 * i && s[ONEROM_SET_ROM_COUNT] == 2 + i, "set row: first ROM, ROM count");
         expect(s[ONEROM_SET_SERVE] == 2 - i && s[ONEROM_SET_STATE] == i, "set row: serve, state");
         expect(s[ONEROM_SET_CONFIG] == FLASH + CONFIG && s[ONEROM_SET_OVERRIDES] == FLASH + OVERRIDES, "set row: config, overrides");
     }
     for (uint32_t i = 0; i < 5; i++) {
-        const uint32_t *r = rows[1] + ONEROM_ROM_WORDS * i;
+        const uint32_t *r = rows[1] + ROM_ROW * i;
         expect(r[ONEROM_ROM_TYPE] == 29 + i, "ROM row: type");
         expect(r[ONEROM_ROM_CS1] == (2 + i) % 3 && r[ONEROM_ROM_CS2] == i % 3 && r[ONEROM_ROM_CS3] == (1 + i) % 3, "ROM row: states");
         expect(r[ONEROM_ROM_NAME_OFFSET] == (i == 3 ? 0 : NAME + i), "ROM row: name's offset");
         expect(r[ONEROM_ROM_NAME_LENGTH] == (i == 3 ? 0 : 8 - i), "ROM row: name's length");
         expect(r[ONEROM_ROM_NAME_REASON] == (i == 3 ? ONEROM_NO_NAME : 0), "ROM row: name's reason");
+        expect(r[ONEROM_ROM_NAME_WIDTH] == (i == 3 ? 0 : 7 - i), "ROM row: name's width");
     }
-    expect(rows[0][ONEROM_SET_WORDS * 2] == 0 && rows[1][ONEROM_ROM_WORDS * 5] == 0, "no row more");
+    expect(rows[0][SET_ROW * 2] == 0 && rows[1][ROM_ROW * 5] == 0, "no row more");
+}
+
+/* The words of a string's part, by name. */
+static void part_words(void) {
+    uint32_t part[ONEROM_PART_WORDS];
+    make();
+    expect(onerom_string(board, LENGTH, FLASH, FLASH + DATE, part) == 0, "a string");
+    expect(ONEROM_PART_OFFSET == 0 && part[ONEROM_PART_OFFSET] == DATE, "part: offset");
+    expect(ONEROM_PART_LENGTH == 1 && part[ONEROM_PART_LENGTH] == 12, "part: length");
+    expect(ONEROM_PART_WIDTH == 2 && part[ONEROM_PART_WIDTH] == 11, "part: width");
 }
 
 /* The words of a runtime record, by name. */
@@ -438,6 +452,7 @@ int main(int argc, char **argv) {
     refused_openings();
     not_extended();
     row_words();
+    part_words();
     runtime_words();
     if (!failed) printf("ok\n");
     return failed;

@@ -18,6 +18,7 @@ int main() {
     onerom_report report = {header, text, text, extra_info, metadata, sets, pins};
     onerom_number number = ONEROM_REFUSED_ENDED;
     onerom_runtime_word runtime_word = ONEROM_RUNTIME_IMAGE;
+    onerom_part_word part_word = ONEROM_PART_OFFSET;
     onerom_level level = ONEROM_LEVEL_CS1;
     onerom_control control = ONEROM_CONTROL_CS1;
     onerom_line line = ONEROM_LINE_F401DE;
@@ -30,7 +31,8 @@ int main() {
     onerom_serve serve = ONEROM_SERVE_TWO_CS_ONE_ADDR;
     onerom_state state = ONEROM_STATE_ACTIVE_LOW;
     onerom_type type = ONEROM_TYPE_ROM2316;
-    unsigned zeros = 0u | runtime_word | level | control | line | storage | port | pio | item | set_word | rom_word | serve | state | type;
+    unsigned words = 0u | runtime_word | part_word | set_word | rom_word;
+    unsigned zeros = words | level | control | line | storage | port | pio | item | serve | state | type;
     onerom_opening opening = onerom_open(nullptr, 0, ONEROM_FLASH_BASE, ONEROM_CS0_BASE, ONEROM_INFO_OFFSET, nullptr, 0, nullptr, 0);
     bool called = opening.number == number && onerom_reason(opening.number)[0] == 'n' && onerom_item_number(&report, item) == 0;
     return zeros == 0 && called &&

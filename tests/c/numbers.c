@@ -61,6 +61,9 @@ static void openings(void) {
     changed(0, 0);
     REFUSED(ONEROM_REFUSED_SET_ROWS, 44, onerom_open(image, 2048, FLASH, CS0, 512, NULL, 0, rom_rows, 16).number);
     REFUSED(ONEROM_REFUSED_ROM_ROWS, 45, onerom_open(image, 2048, FLASH, CS0, 512, set_rows, 16, NULL, 0).number);
+    REFUSED(ONEROM_REFUSED_SET_ROWS, 44, onerom_open(image, 2048, FLASH, CS0, 512, set_rows, SET_ROW - 1, rom_rows, ROM_ROW).number);
+    REFUSED(ONEROM_REFUSED_ROM_ROWS, 45, onerom_open(image, 2048, FLASH, CS0, 512, set_rows, SET_ROW, rom_rows, ROM_ROW - 1).number);
+    expect(onerom_open(image, 2048, FLASH, CS0, 512, set_rows, SET_ROW, rom_rows, ROM_ROW).number == 0, "rows that just fit");
     REFUSED(ONEROM_REFUSED_PORT, 50, opening(changed(1024, 6)).report.pins.number);
     changed(512 + 41, 0);
     expect(onerom_open(image, 2048, FLASH, CS0, 512, NULL, 0, NULL, 0).number == 0, "a board without sets needs no rows");
@@ -69,7 +72,7 @@ static void openings(void) {
 
 static void strings(void) {
     uint8_t text[1024];
-    uint32_t part[2];
+    uint32_t part[ONEROM_PART_WORDS];
     memset(text, 'x', sizeof text);
     REFUSED(ONEROM_REFUSED_NO_NUL, 20, onerom_string(text, 1024, FLASH, FLASH, part));
 }
@@ -89,7 +92,7 @@ static void runtime(void) {
 /* ---- mangling */
 
 static uint8_t addr[16], control[ONEROM_CONTROLS], levels[ONEROM_LEVELS];
-static uint32_t one_set[ONEROM_SET_WORDS], one_rom[ONEROM_ROM_WORDS];
+static uint32_t one_set[SET_ROW], one_rom[ROM_ROW];
 static uint32_t value;
 
 /* Address pins 0 to 10, control pins 11 to 15, all raised; one ROM of the type. */
@@ -103,15 +106,17 @@ static void wired(uint32_t type, uint32_t raised) {
 }
 
 static uint32_t mangled(uint8_t rom_pins, uint32_t address) {
-    return onerom_mangle(0, rom_pins, addr, control, 1, one_set, 8, one_rom, 7, address, levels, &value);
+    return onerom_mangle(0, rom_pins, addr, control, 1, one_set, SET_ROW, one_rom, ROM_ROW, address, levels, &value);
 }
 
 static void mangles(void) {
     wired(ONEROM_TYPE_ROM2316, 0);
     expect(mangled(24, 0x7FF) == 0 && value == 0x7FF, "an address");
-    REFUSED(ONEROM_REFUSED_NO_PINS, 70, onerom_mangle(50, 24, addr, control, 1, one_set, 8, one_rom, 7, 0, levels, &value));
-    REFUSED(ONEROM_REFUSED_NO_SETS, 71, onerom_mangle(0, 24, addr, control, 0, one_set, 8, one_rom, 7, 0, levels, &value));
-    REFUSED(ONEROM_REFUSED_ROW, 4, onerom_mangle(0, 24, addr, control, 1, NULL, 0, one_rom, 7, 0, levels, &value));
+    REFUSED(ONEROM_REFUSED_NO_PINS, 70, onerom_mangle(50, 24, addr, control, 1, one_set, SET_ROW, one_rom, ROM_ROW, 0, levels, &value));
+    REFUSED(ONEROM_REFUSED_NO_SETS, 71, onerom_mangle(0, 24, addr, control, 0, one_set, SET_ROW, one_rom, ROM_ROW, 0, levels, &value));
+    REFUSED(ONEROM_REFUSED_ROW, 4, onerom_mangle(0, 24, addr, control, 1, NULL, 0, one_rom, ROM_ROW, 0, levels, &value));
+    REFUSED(ONEROM_REFUSED_ROW, 4, onerom_mangle(0, 24, addr, control, 1, one_set, SET_ROW - 1, one_rom, ROM_ROW, 0, levels, &value));
+    REFUSED(ONEROM_REFUSED_ROW, 4, onerom_mangle(0, 24, addr, control, 1, one_set, SET_ROW, one_rom, ROM_ROW - 1, 0, levels, &value));
     REFUSED(ONEROM_REFUSED_ADDRESS, 77, mangled(24, 0x800));
     one_set[ONEROM_SET_ROM_COUNT] = 2;
     expect(mangled(24, 0) == 0, "several ROMs");
@@ -228,13 +233,13 @@ static void reads(void) {
     struct onerom_report r = opening(changed(0, 0)).report;
     uint8_t b, buffer[4];
     uint32_t count = 0;
-    expect(onerom_get_rom_set_size(1, set_rows, 8, 0, &value) == 0 && value == 16, "size");
-    REFUSED(ONEROM_REFUSED_NO_SUCH_SET, 80, onerom_get_rom_set_size(1, set_rows, 8, 1, &value));
+    expect(onerom_get_rom_set_size(1, set_rows, SET_ROW, 0, &value) == 0 && value == 16, "size");
+    REFUSED(ONEROM_REFUSED_NO_SUCH_SET, 80, onerom_get_rom_set_size(1, set_rows, SET_ROW, 1, &value));
     REFUSED(ONEROM_REFUSED_ROW, 4, onerom_get_rom_set_size(1, NULL, 0, 0, &value));
-    REFUSED(ONEROM_REFUSED_PAST_SET, 81, onerom_read_rom_set_data(image, 2048, FLASH, CS0, r, set_rows, 8, 0, 13, buffer, 4, &count));
-    expect(onerom_read_rom_set_data(image, 2048, FLASH, CS0, r, set_rows, 8, 0, 16, NULL, 0, &count) == 0 && count == 0, "no bytes, into none");
+    REFUSED(ONEROM_REFUSED_PAST_SET, 81, onerom_read_rom_set_data(image, 2048, FLASH, CS0, r, set_rows, SET_ROW, 0, 13, buffer, 4, &count));
+    expect(onerom_read_rom_set_data(image, 2048, FLASH, CS0, r, set_rows, SET_ROW, 0, 16, NULL, 0, &count) == 0 && count == 0, "no bytes, into none");
     count = 0xFFFFFFFFu;
-    REFUSED(ONEROM_REFUSED_COUNT, 82, onerom_read_rom_set_data(image, 2048, FLASH, CS0, r, set_rows, 8, 0, 0, buffer, 4, &count));
+    REFUSED(ONEROM_REFUSED_COUNT, 82, onerom_read_rom_set_data(image, 2048, FLASH, CS0, r, set_rows, SET_ROW, 0, 0, buffer, 4, &count));
     r.pins.data[5] = 8;
     REFUSED(ONEROM_REFUSED_DATA_PIN, 79, onerom_demangle(r.pins.number, r.pins.data, 0, &b));
 }
@@ -242,20 +247,20 @@ static void reads(void) {
 /* A logical read of set 1 goes by set 0's count and type. */
 static void by_set_0(void) {
     struct onerom_report r;
-    uint32_t sets[16], roms[14], count = 0;
+    uint32_t sets[2 * SET_ROW], roms[2 * ROM_ROW], count = 0;
     uint8_t b = 0;
     static const uint8_t low[ONEROM_LEVELS];
     r = opening(changed(0, 0)).report;
-    memcpy(sets, set_rows, 32);
-    memcpy(sets + 8, set_rows, 32);
-    memcpy(roms, rom_rows, 28);
-    memcpy(roms + 7, rom_rows, 28);
-    sets[8 + ONEROM_SET_FIRST_ROM] = 1;
+    for (int i = 0; i < 2; i++) {
+        memcpy(sets + i * SET_ROW, set_rows, 4 * SET_ROW);
+        memcpy(roms + i * ROM_ROW, rom_rows, 4 * ROM_ROW);
+    }
+    sets[SET_ROW + ONEROM_SET_FIRST_ROM] = 1;
     r.rom_sets.served = 2;
-    roms[7 + ONEROM_ROM_TYPE] = ONEROM_TYPE_ROM2704;
-#define READ() onerom_read_rom_byte_raw(image, 2048, FLASH, CS0, r, sets, 16, roms, 14, 1, 1, 5, low, &count, &b)
+    roms[ROM_ROW + ONEROM_ROM_TYPE] = ONEROM_TYPE_ROM2704;
+#define READ() onerom_read_rom_byte_raw(image, 2048, FLASH, CS0, r, sets, 2 * SET_ROW, roms, 2 * ROM_ROW, 1, 1, 5, low, &count, &b)
     expect(READ() == 0 && b == 85, "set 1's own type is not looked at");
-    roms[7 + ONEROM_ROM_TYPE] = ONEROM_TYPE_ROM2364;
+    roms[ROM_ROW + ONEROM_ROM_TYPE] = ONEROM_TYPE_ROM2364;
     roms[ONEROM_ROM_TYPE] = ONEROM_TYPE_ROM2704;
     expect(READ() == 75, "set 0's type is");
     roms[ONEROM_ROM_TYPE] = ONEROM_TYPE_ROM2364;
@@ -266,21 +271,21 @@ static void by_set_0(void) {
 /* A read by the set's own ROMs, wrong in every way at first: each step rights what the last number was for, and shows the next. */
 static void by_own_roms(void) {
     struct onerom_report r = opening(changed(0, 0)).report;
-    uint32_t sets[16], roms[14], count = 0xFFFFFFFFu, set = 2, base = 0xFFFFFFFFu, cs0 = 0xFFFFFFFFu, address = 0x10000;
-    size_t set_words = 8, len = 1536;
+    uint32_t sets[2 * SET_ROW], roms[2 * ROM_ROW], count = 0xFFFFFFFFu, set = 2, base = 0xFFFFFFFFu, cs0 = 0xFFFFFFFFu, address = 0x10000;
+    size_t set_words = SET_ROW, rom_words = 2 * ROM_ROW - 1, len = 1536;
     uint8_t b = 0;
     static const uint8_t low[ONEROM_LEVELS];
     memset(sets, 0xFF, sizeof sets);
-    memcpy(sets + 8, set_rows, 32);
+    memcpy(sets + SET_ROW, set_rows, 4 * SET_ROW);
     memset(roms, 0xFF, sizeof roms);
     r.rom_sets.served = 2;
     r.pins.number = 50;
     r.pins.x1 = r.pins.data[0] = 200;
     r.pins.x2 = 3;
-    sets[8 + ONEROM_SET_FIRST_ROM] = 1;
-    sets[8 + ONEROM_SET_ROM_COUNT] = 2;
-    sets[8 + ONEROM_SET_SIZE] = 0;
-#define OWN() onerom_read_rom_byte_own(image, len, base, cs0, r, sets, set_words, roms, 14, set, address, low, &count, &b)
+    sets[SET_ROW + ONEROM_SET_FIRST_ROM] = 1;
+    sets[SET_ROW + ONEROM_SET_ROM_COUNT] = 2;
+    sets[SET_ROW + ONEROM_SET_SIZE] = 0;
+#define OWN() onerom_read_rom_byte_own(image, len, base, cs0, r, sets, set_words, roms, rom_words, set, address, low, &count, &b)
     REFUSED(ONEROM_REFUSED_WINDOW, 1, OWN());
     base = FLASH;
     REFUSED(ONEROM_REFUSED_WINDOW, 1, OWN());
@@ -293,27 +298,31 @@ static void by_own_roms(void) {
     r.rom_sets.served = 2;
     set = 1;
     REFUSED(ONEROM_REFUSED_ROW, 4, OWN());
-    set_words = 16;
+    set_words = 2 * SET_ROW;
+    roms[ROM_ROW + ONEROM_ROM_TYPE] = ONEROM_TYPE_ROM2364;
+    expect(OWN() == 4, "a ROM row that lacks its last word, before 70");
+    rom_words = 2 * ROM_ROW;
+    roms[ROM_ROW + ONEROM_ROM_TYPE] = 34;
     expect(OWN() == 4, "a type above 33, before 70");
-    roms[7 + ONEROM_ROM_TYPE] = ONEROM_TYPE_ROM2704;
+    roms[ROM_ROW + ONEROM_ROM_TYPE] = ONEROM_TYPE_ROM2704;
     REFUSED(ONEROM_REFUSED_NO_PINS, 70, OWN());
     r.pins.number = 0;
     REFUSED(ONEROM_REFUSED_X_PIN, 72, OWN());
     r.pins.x1 = 14;
     REFUSED(ONEROM_REFUSED_X_MAPPED, 73, OWN());
-    sets[8 + ONEROM_SET_ROM_COUNT] = 0;
+    sets[SET_ROW + ONEROM_SET_ROM_COUNT] = 0;
     REFUSED(ONEROM_REFUSED_NO_ROM, 74, OWN());
-    sets[8 + ONEROM_SET_ROM_COUNT] = 1;
+    sets[SET_ROW + ONEROM_SET_ROM_COUNT] = 1;
     REFUSED(ONEROM_REFUSED_UNSUPPORTED, 75, OWN());
-    roms[7 + ONEROM_ROM_TYPE] = ONEROM_TYPE_ROM28C16;
+    roms[ROM_ROW + ONEROM_ROM_TYPE] = ONEROM_TYPE_ROM28C16;
     REFUSED(ONEROM_REFUSED_CONTROL_PIN, 76, OWN());
     r.pins.ce = r.pins.oe = 15;
     REFUSED(ONEROM_REFUSED_ADDRESS, 77, OWN());
     address = 5;
     REFUSED(ONEROM_REFUSED_ROM28C16, 78, OWN());
-    roms[7 + ONEROM_ROM_TYPE] = ONEROM_TYPE_ROM2364;
+    roms[ROM_ROW + ONEROM_ROM_TYPE] = ONEROM_TYPE_ROM2364;
     REFUSED(ONEROM_REFUSED_PAST_SET, 81, OWN());
-    sets[8 + ONEROM_SET_SIZE] = 6;
+    sets[SET_ROW + ONEROM_SET_SIZE] = 6;
     REFUSED(ONEROM_REFUSED_ENDED, 2, OWN());
     len = 1552;
     REFUSED(ONEROM_REFUSED_COUNT, 82, OWN());
@@ -357,7 +366,12 @@ static void shown(void) {
     CONSTANT(ONEROM_INFO_OFFSET, 512);
     CONSTANT(ONEROM_RAM_BASE, 536870912u);
     CONSTANT(ONEROM_SET_WORDS, 8);
-    CONSTANT(ONEROM_ROM_WORDS, 7);
+    CONSTANT(ONEROM_ROM_WORDS, 8);
+    CONSTANT(ONEROM_ROM_NAME_WIDTH, 7);
+    CONSTANT(ONEROM_PART_OFFSET, 0);
+    CONSTANT(ONEROM_PART_LENGTH, 1);
+    CONSTANT(ONEROM_PART_WIDTH, 2);
+    CONSTANT(ONEROM_PART_WORDS, 3);
     CONSTANT(ONEROM_RUNTIME_WORDS, 25);
     CONSTANT(ONEROM_ITEM_BUILD_DATE, 0);
     CONSTANT(ONEROM_ITEM_HW_REV, 1);
@@ -372,7 +386,8 @@ static void shown(void) {
 /* The most rows: 255 sets of 255 ROMs each, all of them one ROM. */
 static void most_rows(void) {
     static uint8_t big[16384];
-    static uint32_t sets[ONEROM_MAX_SETS * ONEROM_SET_WORDS], roms[ONEROM_MAX_ROMS * ONEROM_ROM_WORDS];
+    enum { SETS = ONEROM_MAX_SETS * SET_ROW, ROMS = ONEROM_MAX_ROMS * ROM_ROW };
+    static uint32_t sets[SETS], roms[ROMS];
     struct onerom_opening o;
     const uint32_t table = 2048, records = 4096;
     small_board(big, ONEROM_LINE_F405, FLASH);
@@ -383,12 +398,12 @@ static void most_rows(void) {
         put32(big + records + 16 * i + 8, FLASH + table);
         big[records + 16 * i + 12] = 255;
     }
-    o = onerom_open(big, sizeof big, FLASH, CS0, 512, sets, ONEROM_MAX_SETS * ONEROM_SET_WORDS, roms, ONEROM_MAX_ROMS * ONEROM_ROM_WORDS);
+    o = onerom_open(big, sizeof big, FLASH, CS0, 512, sets, SETS, roms, ROMS);
     expect(o.number == 0 && o.report.rom_sets.served == 255, "the most rows");
-    expect(roms[7 * 65024 + ONEROM_ROM_TYPE] == ONEROM_TYPE_ROM2364, "the last of them");
-    o = onerom_open(big, sizeof big, FLASH, CS0, 512, sets, ONEROM_MAX_SETS * ONEROM_SET_WORDS - 1, roms, ONEROM_MAX_ROMS * ONEROM_ROM_WORDS);
+    expect(roms[ROM_ROW * (ONEROM_MAX_ROMS - 1) + ONEROM_ROM_TYPE] == ONEROM_TYPE_ROM2364, "the last of them");
+    o = onerom_open(big, sizeof big, FLASH, CS0, 512, sets, SETS - 1, roms, ROMS);
     expect(o.number == 44, "a word less for sets");
-    o = onerom_open(big, sizeof big, FLASH, CS0, 512, sets, ONEROM_MAX_SETS * ONEROM_SET_WORDS, roms, ONEROM_MAX_ROMS * ONEROM_ROM_WORDS - 1);
+    o = onerom_open(big, sizeof big, FLASH, CS0, 512, sets, SETS, roms, ROMS - 1);
     expect(o.number == 45, "a word less for ROMs");
 }
 

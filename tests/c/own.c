@@ -5,7 +5,7 @@ enum { DATA = 1536, SIZE = 65536 };
 
 static uint8_t image[DATA + SIZE];
 static struct onerom_report report;
-static uint32_t sets[16], roms[14];
+static uint32_t sets[2 * SET_ROW], roms[2 * ROM_ROW];
 static size_t set_words, rom_words;
 
 /* An answer, with the count and the byte as the call left them. */
@@ -22,7 +22,7 @@ static uint8_t at(uint32_t offset) {
 /* 28 pins, A0 to A14 on 0 to 14, CS1 13, CE and OE 15, data pins in order; set 0 a 2364, set 1 a 27256, one ROM each. */
 static void two_sets(void) {
     small_board(image, ONEROM_LINE_F405, FLASH);
-    report = onerom_open(image, sizeof image, FLASH, CS0, 512, sets, 8, roms, 7).report;
+    report = onerom_open(image, sizeof image, FLASH, CS0, 512, sets, SET_ROW, roms, ROM_ROW).report;
     for (uint32_t i = 0; i < SIZE; i++) image[DATA + i] = at(i);
     report.rom_sets.served = 2;
     report.pins.rom_pins = 28;
@@ -31,12 +31,12 @@ static void two_sets(void) {
     report.pins.cs1 = 13;
     report.pins.ce = report.pins.oe = 15;
     sets[ONEROM_SET_SIZE] = SIZE;
-    memcpy(sets + 8, sets, 32);
-    memcpy(roms + 7, roms, 28);
-    sets[8 + ONEROM_SET_FIRST_ROM] = 1;
-    roms[7 + ONEROM_ROM_TYPE] = ONEROM_TYPE_ROM27256;
-    set_words = 16;
-    rom_words = 14;
+    memcpy(sets + SET_ROW, sets, 4 * SET_ROW);
+    memcpy(roms + ROM_ROW, roms, 4 * ROM_ROW);
+    sets[SET_ROW + ONEROM_SET_FIRST_ROM] = 1;
+    roms[ROM_ROW + ONEROM_ROM_TYPE] = ONEROM_TYPE_ROM27256;
+    set_words = 2 * SET_ROW;
+    rom_words = 2 * ROM_ROW;
 }
 
 static struct answer by_set_0(uint32_t set, uint32_t address, uint8_t cs1, uint32_t count) {
@@ -72,7 +72,7 @@ static void cases(void) {
 
     report.pins.number = 50;
     expect(refused(by_set_0(2, 5, 0, 0), 70) && refused(by_own(2, 5, 0, 0), 80), "no pins, set 2 of two");
-    set_words = 15;
+    set_words = 2 * SET_ROW - 1;
     expect(refused(by_set_0(1, 5, 0, 0), 70) && refused(by_own(1, 5, 0, 0), 4), "no pins, no row of set 1");
     two_sets();
     report.rom_sets.served = 0;
@@ -96,7 +96,7 @@ static void cases(void) {
 
 /* 4: set 0's row, or unless it has no ROM its first ROM row or that row's type. */
 static int lacks_rows(void) {
-    return set_words < 8 || (sets[ONEROM_SET_ROM_COUNT] != 0 && (rom_words < 7 || roms[ONEROM_ROM_TYPE] > 33));
+    return set_words < SET_ROW || (sets[ONEROM_SET_ROM_COUNT] != 0 && (rom_words < ROM_ROW || roms[ONEROM_ROM_TYPE] > 33));
 }
 
 /* Both reads of set 0: the same byte and count, accepted or refused; numbers that part only so. Answers the new one's. */
@@ -140,8 +140,8 @@ static void on_set_0(void) {
         sets[ONEROM_SET_ROM_COUNT] = one_of(3);
         sets[ONEROM_SET_SIZE] = one_of(2) ? 4 : SIZE;
         sets[ONEROM_SET_DATA_POINTER] = FLASH + DATA + (one_of(2) ? SIZE : 0);
-        set_words = 6 + one_of(3);
-        rom_words = 5 + one_of(3);
+        set_words = SET_ROW - 2 + one_of(3);
+        rom_words = ROM_ROW - 2 + one_of(3);
         roms[ONEROM_ROM_TYPE] = types[one_of(5)];
         uint32_t address = one_of(2) ? 0x20000 : 5;
         seen[agree(address, one_of(2) ? 0xFFFFFFFFu : 0) % 100] = 1;

@@ -2,7 +2,8 @@
 """The rows of boards of up to 255 sets, as the C call leaves them, beside the answers of another reader: python3 tests/c/rows.py PROGRAM
 
 tests/data/rows-vectors.xz is a line of JSON, then the images. A board has words 3 and 2 of its set rows (rom_counts, first_rows), and the SHA-256
-of all words written, of ROM rows for seven words a row and for the eight of wish 3. PROGRAM is tests/c/rows.c."""
+of all words written: of ROM rows once without the width, seven words a row, and once with it, eight, which is what is compared. PROGRAM is
+tests/c/rows.c."""
 import hashlib
 import json
 import lzma
@@ -41,8 +42,9 @@ def rom_row_words():
         return int(re.search(r"^#define ONEROM_ROM_WORDS (\d+)$", f.read(), re.M).group(1))
 
 
-WIDTH = rom_row_words()
-ROM_HASH = {7: "rom_rows_sha256", 8: "rom_rows_sha256_eight"}[WIDTH]
+ROM_WORDS = rom_row_words()
+# the stored number of words lent is for ROM rows of so many
+STORED_WORDS = 7
 
 
 def boards():
@@ -66,9 +68,9 @@ def boards():
 
 def openings(v):
     """Every way in which a board's rows are lent. Refused with 44 or 45 nothing is written, and the report is zeros."""
-    # stored are the words lent for ROM rows of seven
-    given = v["set_words"], v["rom_words"] + v["rom_words"] // 7 * (WIDTH - 7)
-    written = SET_WORDS * len(v["rom_counts"]), WIDTH * sum(v["rom_counts"])
+    # a word more for each whole row
+    given = v["set_words"], v["rom_words"] + v["rom_words"] // STORED_WORDS * (ROM_WORDS - STORED_WORDS)
+    written = SET_WORDS * len(v["rom_counts"]), ROM_WORDS * sum(v["rom_counts"])
     refused = [0, 0, 0], 0, 0
     yield Opening(v, "as stored", *given, v["opening"], v["sets"], *written)
     if v["opening"]:
@@ -108,7 +110,7 @@ def compare(o, numbers, set_rows, rom_rows, before):
     if o.set_written:
         same_words(words[3::SET_WORDS], o.board["rom_counts"], what + "the ROM count")
         same_words(words[2::SET_WORDS], o.board["first_rows"], what + "the first ROM row")
-    for name, rows, n, key in (("set", set_rows, o.set_written, "set_rows_sha256"), ("ROM", rom_rows, o.rom_written, ROM_HASH)):
+    for name, rows, n, key in (("set", set_rows, o.set_written, "set_rows_sha256"), ("ROM", rom_rows, o.rom_written, "rom_rows_sha256_eight")):
         if o.number == 0:
             same(hashlib.sha256(rows[: 4 * n]).hexdigest(), o.board[key], what + "SHA-256 of the %s rows" % name)
         if rows[4 * n :] != before[4 * n : len(rows)]:
@@ -125,7 +127,7 @@ def main():
         compare(o, *answer, before)
     same({(v["opening"], v["sets"][0]) for v in stored}, {(0, 0), (0, 40), (44, 0), (45, 0)}, "the numbers that occur")
     same(max((len(v["rom_counts"]), sum(v["rom_counts"])) for v in stored), (255, 65025), "the largest board's sets and ROMs")
-    rows = sum(o.set_written for o in asked) // SET_WORDS, sum(o.rom_written for o in asked) // WIDTH
+    rows = sum(o.set_written for o in asked) // SET_WORDS, sum(o.rom_written for o in asked) // ROM_WORDS
     print("the other reader's rows agree: %d boards, %d openings, %d set rows, %d ROM rows" % (len(stored), len(asked), *rows))
 
 

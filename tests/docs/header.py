@@ -19,8 +19,8 @@ DEFINED = (
     ("romPlace", "", "ROM_"),
 )
 # constants that the Rust wrapper has too
-IN_RUST = ("LINE_", "STORAGE_", "PORT_", "PIO_", "SET_", "ROM_", "SERVE_", "STATE_", "TYPE_", "LEVEL", "LOW", "HIGH", "ITEM_", "ACCEPTED", "REFUSED_",
-           "MAX_", "NO_NAME", "FLASH_BASE", "CS0_BASE", "INFO_OFFSET")
+IN_RUST = ("LINE_", "STORAGE_", "PORT_", "PIO_", "SET_", "ROM_", "PART_", "SERVE_", "STATE_", "TYPE_", "LEVEL", "LOW", "HIGH", "ITEM_", "ACCEPTED",
+           "REFUSED_", "MAX_", "NO_NAME", "FLASH_BASE", "CS0_BASE", "INFO_OFFSET")
 
 
 def text(name):
@@ -76,7 +76,7 @@ def main():
         held = {plain(k[len(prefix):]): v for k, v in c.items() if k.startswith(prefix) and k not in ("SET_WORDS", "ROM_WORDS")}
         bad += [] if cases else ["no definition is called %s" % function]
         bad += differences(function, held, cases)
-    for name, width in (("SET_WORDS", "setWidth"), ("ROM_WORDS", "romWidth")):
+    for name, width in (("SET_WORDS", "setRowLength"), ("ROM_WORDS", "romRowLength")):
         bad += differences(width, {name: c.get(name)}, dict((name, int(n)) for n in re.findall(r"(?m)^%s = (\d+)$" % width, specs)))
     bad += differences("the Rust wrapper", {k: v for k, v in c.items() if k.startswith(IN_RUST)}, r)
     c_words = {c.get(name): words for name, words in re.findall(r'case ONEROM_(\w+): return "(.*)";', header)}

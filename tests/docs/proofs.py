@@ -12,7 +12,7 @@ CRATES = os.path.join(ROOT, "crates")
 READING = [
     ("what every definition is written with", ["base/Choice", "le/Le", "runs/Runs", "magic/Magic", "prog/Prog"]),
     ("Window", ["window/Window"]),
-    ("String; RFC 3629", ["utf8/Utf8", "utf8/Rfc3629", "text/Text"]),
+    ("String; RFC 3629", ["utf8/Utf8", "utf8/Rfc3629", "utf8/Points", "text/Text"]),
     ("Info header", ["types/Types", "type_numbers/TypeNumbers", "version/Version", "header/Header"]),
     ("Extra info", ["extra_info/ExtraInfo"]),
     ("Metadata", ["metadata/Metadata", "sets_source/Looked"]),

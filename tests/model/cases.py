@@ -1,11 +1,13 @@
 """Boards made field by field, and reports and rows altered at random, for make_boards.py. The answers are opening.py's; here stands only
 what is given. Each group yields cases."""
-import random, struct
+import copy, random, struct
+from itertools import accumulate
 
 import boards
 import mangle
-from opening import Call, Lent, lent_of, opening
+from opening import DATE, REVISION, Call, Lent, lent_of, opening
 from records import NONE
+from rows import NARROW, ROM_WORDS, SET_WORDS, NAME_WIDTH, words
 
 B = 0x08000000
 C = 0x10000000
@@ -41,6 +43,17 @@ class Report:
 
     def run(self, out):
         out.lent(*self.given)
+
+
+class OtherWidths(Report):
+    """The same with other widths in the ROM rows, at which no call looks (document 02, wish 3)."""
+
+    def run(self, out):
+        image, lent, calls = self.given
+        other = copy.copy(lent)
+        other.roms = [w ^ NONE if i % ROM_WORDS == NAME_WIDTH else w for i, w in enumerate(lent.roms)]
+        assert [c.answer(other, image) for c in calls] == [c.answer(lent, image) for c in calls]
+        out.lent(image, other, calls)
 
 
 def both(i, address, levels, count=0):
@@ -108,7 +121,7 @@ def walk_image(version, sets, base=B, line=1, logging=0, end=0, **header):
 
 
 def rows_of(sets):
-    return 8 * len(sets), 7 * sum(len(s.roms) for s in sets)
+    return words(len(sets), sum(len(s.roms) for s in sets))
 
 
 def calls_on(sets):
@@ -174,7 +187,8 @@ def fullest():
         sets = some_sets((0, 6, 9, 0), 255, 0, [Rom()] * 255)
         infos = [info_bytes(Rom(kind=i % 34, states=(i % 3, i // 3 % 3, i // 9 % 3), name=(None, B - 1, B, B + 64)[i % 4])) for i in range(254)]
         image = with_table((0, 6, 9, 0), sets, infos + [info_bytes(Rom(kind=kind))])
-        yield Board(image, 2041, 455180, list(calls_on(sets)))
+        n, m = rows_of(sets)
+        yield Board(image, n + 1, m + 5, list(calls_on(sets)))
 
 
 def pointers():
@@ -239,20 +253,20 @@ def refusals():
         # a table whose last entry is not whole, in set 0 and in a later one
         for sets in ([Set([Rom()] * 3, table=B + END - 11)], [good[0], Set([Rom()] * 3, table=B + END - 11)]):
             image = walk_image(version, sets, end=END)
-            yield Board(image[: END - 11] + struct.pack("<II", B + 160, B + 161) + image[END - 3 :], 16, 28)
-            yield Board(image[: END - 11] + struct.pack("<III", B + 160, B + 161, B + 162), 16, 28)
+            yield Board(image[: END - 11] + struct.pack("<II", B + 160, B + 161) + image[END - 3 :], *words(2, 4))
+            yield Board(image[: END - 11] + struct.pack("<III", B + 160, B + 161, B + 162), *words(2, 4))
         # the last set's bytes end with the image, a byte before, and the table's
         image = walk_image(version, good)
         for n in sorted({0, 63, 64, 65, 96 + 63, 96 + 64, 96 + 79, 96 + 80, 96 + 81, 319, 320, 321} | set(range(len(image) - 13, len(image)))):
             if n <= len(image):
-                yield Board(image[:n], 16, 21)
+                yield Board(image[:n], *words(2, 3))
 
 
 def named(version, logging, base, line, text, pointer=None, end=END):
     """A board whose two ROMs have the name that stands at the end of the image."""
     sets = [Set([Rom(name=base + end if pointer is None else pointer), Rom(kind=9, name=base + 64)], data=base)]
     image = walk_image(version, sets, base=base, line=line, logging=logging, end=end) + text
-    return Board(image, 8, 14, [Call("size", 0), Call("raw raw", 0, 1)], settings=(B, base, 0) if line == 5 else (base, C, 0))
+    return Board(image, *words(1, 2), [Call("size", 0), Call("raw raw", 0, 1)], settings=(B, base, 0) if line == 5 else (base, C, 0))
 
 
 def names():
@@ -276,15 +290,15 @@ def settings():
         image = walk_image((0, 6, 1, 0), [Set([Rom(name=base + 64)], data=base)], base=base, line=line)
         for given in ((B, C, 0), (C, B, 0), (B, C, 1), (0, 0, 0), (B, 2**32 - len(image), 0), (B, 2**32 - len(image) + 1, 0),
                       (2**32 - len(image), C, 0), (2**32 - len(image) + 1, C, 0), (B, C, 2**32 - B), (B, C, 2**32 - B - 64), (NONE, NONE, NONE), (B, C, NONE)):
-            yield Board(image, 8, 7, [Call("data", 0, 0, n=8), Call("size", 0)], settings=given)
+            yield Board(image, *words(1, 1), [Call("data", 0, 0, n=8), Call("size", 0)], settings=given)
         for n in (0, 7, 64):
-            yield Board(bytes(n) + image, 8, 7, [Call("size", 0)], settings=(B, C, n))
+            yield Board(bytes(n) + image, *words(1, 1), [Call("size", 0)], settings=(B, C, n))
     for version in ((0, 7, 0, 0), (0, 7, 0, 1), (1, 0, 0, 0), (0, 6, 65535, 65535)):
         yield walked(version, [Set([Rom()])])
     for at, value in ((0, 0x20), (28, 6), (29, 1), (30, 8), (31, 1), (64, 0), (79, 1), (80, 2), (84, 0), (88, 0)):
         image = bytearray(walk_image((0, 6, 1, 0), [Set([Rom()])]))
         image[at] = value
-        yield Board(bytes(image), 8, 7, [Call("size", 0)])
+        yield Board(bytes(image), *words(1, 1), [Call("size", 0)])
     yield walked((0, 6, 1, 0), [Set([Rom()])], count=1, pointer=0)
 
 
@@ -312,18 +326,18 @@ def bench():
     for up in (0, 8):
         pins = boards.pins(24, range(7, -1, -1), [up + p for p in range(13)] + [255] * 3, [up + 13, 255, 255], [255, 255], 255, 255)
         image = bench_board(2, 1, pins)
-        yield Board(image + bytes(i % 251 for i in range(10000)), 8, 7, m1 + reads + [Call("demangle", 0, n) for n in (0, 1, 128, 255)])
+        yield Board(image + bytes(i % 251 for i in range(10000)), *words(1, 1), m1 + reads + [Call("demangle", 0, n) for n in (0, 1, 128, 255)])
     m4 = boards.pins(24, [0, 1, 2, 3, 4, 5, 6, 8], list(range(11)) + [255] * 5, [13, 11, 12], [255, 255], 255, 255)
     levels = [tuple(2 * (i >> k & 1) for k in range(5)) for i in range(32)]
     calls = [Call("mangle", 0, a, given) for a in (0, 2047, 2048) for given in levels] + [Call("demangle", 0, 1), Call("raw", 0, 3), Call("raw raw", 0, 3)]
-    yield Board(bench_board(0, 1, m4), 8, 7, calls)
-    yield Board(bench_board(0, 2, m4), 8, 14, calls)
+    yield Board(bench_board(0, 1, m4), *words(1, 1), calls)
+    yield Board(bench_board(0, 2, m4), *words(1, 2), calls)
     # an unknown USB port refuses nothing
     for port in (0, 5, 6, 255):
         for version in ((0, 4, 0, 0), (0, 6, 0, 0)):
             extra = struct.pack("<IBBBBI", 7, 2, port, 9, 3, 11).ljust(256, b"\x11")
-            yield Board(bench_board(0, 1, m4, version, extra=extra), 8, 7)
-            yield Board(bench_board(0, 1, m4, version, extra=extra[:-1]), 8, 7)
+            yield Board(bench_board(0, 1, m4, version, extra=extra), *words(1, 1))
+            yield Board(bench_board(0, 1, m4, version, extra=extra[:-1]), *words(1, 1))
 
 
 def bench_strings():
@@ -331,8 +345,8 @@ def bench_strings():
     pins = boards.pins(28, range(8), range(16), [3, 4, 5], [255, 255], 9, 8)
     for date in (b"d" * 1023 + b"\0", b"d" * 1024, b"d" * 1024 + b"\0", b"d" * 1022 + b"\0\0", b"d" * 960, b"\xff" * 64, b"\xff" * 1024, b"\0"):
         image = bench_board(4, 1, pins, date=date)
-        yield Board(image, 8, 7)
-        yield Board(image[:-1], 8, 7)
+        yield Board(image, *words(1, 1))
+        yield Board(image[:-1], *words(1, 1))
 
 
 # ---- small whole boards, cut at every length
@@ -364,23 +378,29 @@ def small_board(version, line, base, logging):
     return boards.place(616, parts if meta else [p for p in parts if p[0] != 128])
 
 
+def small_reads():
+    yield from (Call("data", 0, a, n=n) for a, n in ((0, 68), (0, 1), (67, 1), (10, 0), (68, 0), (0, 69)))
+    yield from (Call("data", 1, a, n=n) for a, n in ((0, 600), (100, 200), (590, 10)))
+    yield from (Call(k, i, a, CS1) for k in ("raw", "raw raw", "logical", "logical raw") for i in (0, 1) for a in (0, 5, 67))
+    for i, a, levels in ((0, 5, CS1), (1, 5, CS1), (1, 0, NOT_GIVEN), (1, 67, NOT_GIVEN), (1, 599, NOT_GIVEN)):
+        yield Call("own", i, a, levels)
+
+
 def small():
-    reads = [Call("data", 0, a, n=n) for a, n in ((0, 68), (0, 1), (67, 1), (10, 0), (68, 0), (0, 69))]
-    reads += [Call("data", 1, a, n=n) for a, n in ((0, 600), (100, 200), (590, 10))]
-    reads += [Call(k, i, a, (2, 0, 0, 0, 0)) for k in ("raw", "raw raw", "logical", "logical raw") for i in (0, 1) for a in (0, 5, 67)]
-    reads += [Call("own", i, a, levels) for i, a, levels in ((0, 5, CS1), (1, 5, CS1), (1, 0, NOT_GIVEN), (1, 67, NOT_GIVEN), (1, 599, NOT_GIVEN))]
+    reads = list(small_reads())
     for version, line, base, logging in (
         ((0, 3, 9, 1), 1, B, 1), ((0, 4, 0, 0), 2, B, 0), ((0, 4, 9, 0), 5, C, 1), ((0, 5, 0, 7), 1, B, 0), ((0, 5, 0, 7), 1, B, 1),
         ((0, 5, 1, 0), 3, B, 0), ((0, 6, 0, 0), 5, C, 0), ((0, 6, 9, 0), 4, B, 1), ((0, 6, 9, 0), 0, 2**32 - 616, 0),
     ):  # fmt: skip
         image = small_board(version, line, base, logging)
         given = (base, C, 0) if line != 5 else (B, base, 0)
-        o = opening(image, given, 16, 21)
+        n, m = words(2, 3)
+        o = opening(image, given, n, m)
         assert o.number == 0 and o.served() == 2, (version, o.number, o.words)
-        yield Board(image, 16, 21, reads, "all", given)
-        yield Board(image, 19, 28, reads, "all", given)
+        yield Board(image, n, m, reads, "all", given)
+        yield Board(image, n + 3, m + 7, reads, "all", given)
     for image, line in ((boards.old, 1), (boards.new, 5)):
-        yield Board(image, 16, 21, reads, "all")
+        yield Board(image, *words(2, 3), reads, "all")
 
 
 # ---- rows altered at random
@@ -397,17 +417,23 @@ def some_pins(rng):
     return words if words[0] == 0 else [words[0]] + [0] * 77
 
 
+def rom_row(kind, *states):
+    """A ROM row without a name."""
+    return [kind, *(states or (0, 0, 0)), 0, 0, 1, 0]
+
+
 def some_rows(rng, base, size):
     """Rows of some sets with some of their words changed, and cut or not."""
     counts = [rng.choice((0, 1, 1, 2, 3)) for _ in range(rng.randrange(1, 6))]
     sets, roms = [], []
     for i, n in enumerate(counts):
-        sets += [base + rng.randrange(size), rng.choice((1, 40, size, 65536, 131072)), len(roms) // 7, n, rng.randrange(3), rng.randrange(3), 0, 0]
+        first = len(roms) // ROM_WORDS
+        sets += [base + rng.randrange(size), rng.choice((1, 40, size, 65536, 131072)), first, n, rng.randrange(3), rng.randrange(3), 0, 0]
         for _ in range(n):
-            roms += [rng.choice((2, 2, 0, 3, 8, 14, 26, rng.randrange(34))), 0, 1, 2, 0, 0, 1]
+            roms += rom_row(rng.choice((2, 2, 0, 3, 8, 14, 26, rng.randrange(34))), 0, 1, 2)
     if rng.random() < 0.4 and len(counts) > 1:
         sets[8 + 1], sets[8 + 3], sets[8 + 4] = sets[1], sets[3], sets[4]
-        roms[7 * sets[8 + 2] :] = roms[: 7 * sets[3]] + roms[7 * (sets[8 + 2] + sets[8 + 3]) :]
+        roms[ROM_WORDS * sets[8 + 2] :] = roms[: ROM_WORDS * sets[3]] + roms[ROM_WORDS * (sets[8 + 2] + sets[8 + 3]) :]
     for rows in (sets, roms):
         for _ in range(rng.choice((0, 0, 1, 1, 2, 4))):
             if rows:
@@ -430,8 +456,9 @@ def some_calls(rng, sets):
 
 
 def altered():
+    """Every fifth stands there again with other widths."""
     rng, own = random.Random(20261116), random.Random(20261117)
-    for _ in range(300):
+    for number in range(300):
         line = rng.randrange(6)
         size = rng.choice((0, 1, 40, 120, 200))
         flash, cs0 = rng.choice(((B, C), (C, B), (B, C), (0, 0), (2**32 - size, C), (B, 2**32 - size + 1), (2**32 - size, 2**32 - size)))
@@ -444,7 +471,10 @@ def altered():
         served = rng.choice((0, len(sets) // 8, len(sets) // 8, len(sets) // 8, 1, 2, 255, 300))
         lent = Lent(flash, cs0, line, some_pins(rng), served, sets, roms)
         calls = list(some_calls(rng, sets))
-        yield Report(image, lent, calls + own_beside(own, calls, lent, image))
+        calls += own_beside(own, calls, lent, image)
+        yield Report(image, lent, calls)
+        if number % 5 == 0:
+            yield OtherWidths(image, lent, calls)
 
 
 # ---- the read by the set's own ROMs (document 02, wish 1)
@@ -534,16 +564,17 @@ def own_rows():
     yield Told(mixed, (2, 5, CS1, 4, 4), (2**29, 5, CS1, 4, 4), (2**29 + 1, 5, CS1, 4, 4), (NONE, 5, CS1, 80, 80), served=NONE)
     sets = [B + DATA_AT, 65536, 0, 1, 0, 0, 0, 0] + [B + DATA_AT, 65536, 1, 1, 0, 0, 0]
     yield Told(mixed, (0, 5, CS1, At(8197), At(8197)), (1, 5, CS1, 4, 4), sets=sets)
-    two = [2, 0, 0, 0, 0, 0, 1] + [12, 0, 0, 0, 0, 0, 1]
-    yield Told(mixed, (0, 5, CS1, At(8197), At(8197)), (1, 8192, NOT_GIVEN, 77, 4), roms=two[:13])
-    yield Told(mixed, (0, 5, CS1, At(8197), At(8197)), (1, 8192, NOT_GIVEN, 77, 77), (1, 5, CS1, At(8197), At(8197)), roms=two[:7], sets={10: 0})
-    for first in (2, 613566756, 613566757, NONE):
+    two = rom_row(2) + rom_row(12)
+    yield Told(mixed, (0, 5, CS1, At(8197), At(8197)), (1, 8192, NOT_GIVEN, 77, 4), roms=two[:-1])
+    first_alone = (1, 8192, NOT_GIVEN, 77, 77), (1, 5, CS1, At(8197), At(8197))
+    yield Told(mixed, (0, 5, CS1, At(8197), At(8197)), *first_alone, roms=two[:ROM_WORDS], sets={10: 0})
+    for first in (2, 2**32 // ROM_WORDS - 1, 2**32 // ROM_WORDS, NONE):
         yield Told(mixed, (1, 5, CS1, At(8197), 4), sets={10: first})
         yield Told(mixed, (1, 5, CS1, At(8197), 74), sets={10: first, 11: 0})
         yield Told(mixed, (0, 5, CS1, 4, 4), (1, 5, CS1, 4, At(5)), sets={2: first})
     for kind, old, new in ((33, At(8197), 75), (34, At(8197), 4), (NONE, At(8197), 4)):
-        yield Told(mixed, (1, 5, CS1, old, new), roms={7: kind})
-        yield Told(no_pins, (1, 5, CS1, 70, 4 if new == 4 else 70), (0, 5, CS1, 70, 70), roms={7: kind})
+        yield Told(mixed, (1, 5, CS1, old, new), roms={ROM_WORDS: kind})
+        yield Told(no_pins, (1, 5, CS1, 70, 4 if new == 4 else 70), (0, 5, CS1, 70, 70), roms={ROM_WORDS: kind})
     yield Told(no_pins, (1, 5, CS1, 70, 70), sets={11: 0})
 
 
@@ -583,6 +614,109 @@ def own():
     yield from own_refusals()
 
 
+# ---- how wide a string is (document 02, wish 3)
+
+# strings and their widths, counted by hand
+WIDTHS = (
+    (b"A", 1), (b"\xc3\xa9", 1), (b"\xe2\x82\xac", 1), (b"\xf0\x9f\x98\x80", 1), (b"e\xcc\x81", 2), (b"", 0), (511 * b"\xc3\xa9" + b"a", 512),
+)  # fmt: skip
+
+
+class Shown:
+    """A board whose opening is told: its number and, where it opens, build date, revision (number, offset, length, width) and names (the same, the
+    reason its number)."""
+
+    def __init__(self, image, lengths, number, date=None, revision=None, names=(), cuts=()):
+        self.image, self.lengths, self.number, self.told, self.cuts = image, lengths, number, (date, revision, *names), cuts
+
+    def run(self, out):
+        o = opening(self.image, (B, C, 0), *self.lengths)
+        assert o.number == self.number, (o.number, self.number)
+        names = [(reason, offset, length, width) for *_, offset, length, reason, width in o.roms]
+        if o.number == 0:
+            assert (tuple(o.part(DATE)), tuple(o.part(REVISION)), *names) == self.told, (o.words, o.roms, self.told)
+        out.board(self.image, (B, C, 0), *self.lengths, [Call("size", 0), Call("same", 0, 0)], self.cuts, o)
+
+
+class Asked:
+    """Calls other than reads, each with its reply as worked out by hand, on the report of a board with these rows in place of its own."""
+
+    def __init__(self, given, sets, roms, asked):
+        self.given, self.sets, self.roms, self.asked = given, sets, roms, asked
+
+    def run(self, out):
+        image, *lengths = self.given
+        lent = lent_of(opening(image, (B, C, 0), *lengths), (B, C, 0), *lengths)
+        lent.sets, lent.roms, lent.served = self.sets, self.roms, len(self.sets) // SET_WORDS
+        for call, told in self.asked:
+            assert call.answer(lent, image) == told, (vars(call), call.answer(lent, image), told)
+        out.lent(image, lent, [call for call, _ in self.asked])
+
+
+def labelled(texts):
+    """A board of one set, of which each ROM is named by one of the texts, which stand in the image one behind the other; the first is the build
+    date too, and the last the revision. And where each starts."""
+    at = list(accumulate(map(len, texts), initial=END))[:-1]
+    image = bytearray(walk_image((0, 6, 1, 0), [Set([Rom(name=B + start) for start in at])], end=END) + b"".join(texts))
+    image[12:16], image[24:28] = struct.pack("<I", B + at[0]), struct.pack("<I", B + at[-1])
+    return bytes(image), at
+
+
+def shown_widths():
+    """Names, build date and revision; each chunk of the last text ends with the image."""
+    image, at = labelled([text + b"\0" for text, _ in WIDTHS])
+    told = [(0, start, len(text), width) for start, (text, width) in zip(at, WIDTHS)]
+    n, m = words(1, len(WIDTHS))
+    for more in (0, 1, 7, 8):
+        yield Shown(image, (n, m + more), 0, told[0], told[-1], told, "all" if more == 0 else [len(image) - 1])
+    for less in (1, 7, 8, m):
+        yield Shown(image, (n, m - less), 45)
+    yield Shown(image, (n - 1, m), 44)
+    # the first name's chunk ends with the image, so that of the others no chunk is whole
+    ended = 2, 0, 0, 0
+    cut = image[: END + 64]
+    yield Shown(cut, (n, m), 0, told[0], ended, [told[0]] + [ended] * (len(WIDTHS) - 1))
+    yield Shown(cut[:-1], (n, m), 0, ended, ended, [ended] * len(WIDTHS))
+    # a name cut off in its chunk, one that is not UTF-8, and ones without a NUL
+    for text, number in (b"short\0".ljust(63), 2), (b"\xc0\x80\0".ljust(64), 21), (64 * b"\xff", 2), (1024 * b"w", 20):
+        told = number, 0, 0, 0
+        yield Shown(labelled([text])[0], words(1, 1), 0, told, told, [told])
+
+
+def width_rows():
+    """One ROM and 7 words, or 8; no ROM and no words; and calls on such rows."""
+    image, (at,) = labelled([b"jib\0".ljust(64)])
+    told = 0, at, 3, 3
+    yield Shown(image, (SET_WORDS, NARROW), 45)
+    yield Shown(image, (SET_WORDS, ROM_WORDS), 0, told, told, [told])
+    yield Shown(walk_image((0, 4, 0, 0), [Set()], end=END), (SET_WORDS, 0), 0, (3, 0, 0, 0), (3, 0, 0, 0))
+    yield Shown(walk_image((0, 4, 0, 0), [], end=END), (0, 0), 0, (3, 0, 0, 0), (3, 0, 0, 0))
+    row, set_row = rom_row(2), [B + DATA_AT, 65536, 0, 1, 0, 0, 0, 0]
+    twice = set_row + [B + DATA_AT, 65536, 1, 1, 0, 0, 0, 0]
+    # row 0 without its width, whole, and with another width: of the M1 board's address 5 mangling gives 8197
+    for roms, mangled, yes in ((row[:NARROW], (4, 0), (4, 0)), (row, (0, 8197), (0, 1)), (row[:NARROW] + [NONE], (0, 8197), (0, 1))):
+        asked = (Call("mangle", 0, 5, CS1), mangled), (Call("same", 0, 0), yes), (Call("size", 0), (0, 65536))
+        yield Asked(yard([[2]]), set_row, roms, asked)
+        yield Told(yard([[2]]), (0, 5, CS1, *[4 if mangled[0] else At(8197)] * 2), roms=roms)
+    # row 1, which mangling does not need
+    for roms, yes in ((row[:NARROW], (4, 0)), (row, (0, 1)), (row[:NARROW] + [1], (0, 1))):
+        yield Asked(yard([[2]]), twice, row + roms, ((Call("mangle", 0, 5, CS1), (0, 8197)), (Call("same", 0, 1), yes), (Call("same", 1, 0), yes)))
+
+
+def unmoved_by_widths():
+    """Boards as opened, with other widths in their rows."""
+    given, lengths = (B, C, 0), words(2, 3)
+    for image in (small_board((0, 6, 9, 0), 4, B, 1), boards.old):
+        calls = [*small_reads(), *calls_on(range(2)), *(Call("mangle", 0, a, CS1) for a in (0, 5, 8192)), Call("demangle", 0, 5)]
+        yield OtherWidths(image, lent_of(opening(image, given, *lengths), given, *lengths), calls)
+
+
+def widths():
+    yield from shown_widths()
+    yield from width_rows()
+    yield from unmoved_by_widths()
+
+
 GROUPS = [
     ("counts and strides", counts),
     ("config and overrides", pointers),
@@ -593,4 +727,5 @@ GROUPS = [
     ("small boards cut at every length", small),
     ("rows altered at random", altered),
     ("reads by the set's own ROMs", own),
+    ("widths", widths),
 ]

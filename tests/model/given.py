@@ -1,8 +1,10 @@
-"""The answers of another reader of documents 01 and 02: tests/data/boards-vectors.xz and lent-vectors.xz, a line of JSON, then the images; and
-own-vectors.xz on the read of wish 1, a line of JSON. Where the model beside this file answers otherwise, an assertion stops the script."""
+"""The answers of another reader of documents 01 and 02: tests/data/boards-vectors.xz and lent-vectors.xz, a line of JSON, then the images; and, a
+line of JSON each, own-vectors.xz on the read of wish 1 and width-vectors.xz on the widths of wish 3. Where the model beside this file answers
+otherwise, an assertion stops the script. All but the last have ROM rows of seven words, which are made rows of eight as they are read, and answers
+without widths, with which the model's are compared without theirs."""
 import json, lzma, os
 
-import opening
+import opening, rows
 from opening import Call, Lent
 
 DATA = os.path.join(os.path.dirname(os.path.abspath(__file__)), "..", "data")
@@ -36,8 +38,13 @@ def report_words(a):
     return words + pins_words(a["pins"])
 
 
-def flat(rows):
-    return [w for row in rows for w in row]
+def flat(table):
+    return [w for row in table for w in row]
+
+
+def lengths_of(v):
+    """The lengths of the lent rows; ROM rows were lent for seven words each."""
+    return v["set_words"], rows.widened_length(v["rom_words"])
 
 
 def compare_calls(calls, lent, image):
@@ -55,28 +62,29 @@ def compare_calls(calls, lent, image):
 
 def boards():
     """image, settings, set words, ROM words, the opening, the calls"""
-    rows, images = unpacked("boards-vectors.xz")
+    told, images = unpacked("boards-vectors.xz")
     at = 0
-    for v in rows:
-        image, settings, a = images[at : at + v["length"]], v["settings"], v["answer"]
+    for v in told:
+        image, settings, a, lengths = images[at : at + v["length"]], v["settings"], v["answer"], lengths_of(v)
         at += v["length"]
-        o = opening.opening(image, settings, v["set_words"], v["rom_words"])
+        o = opening.opening(image, settings, *lengths)
         assert o.number == a["refused"], v
         calls = []
         if o.number == 0:
-            assert o.words == report_words(a), (v, o.words, report_words(a))
-            assert [flat(o.sets), flat(o.roms)] == [a["set rows"], a["rom rows"]], v
+            words = opening.without_widths(o.words)
+            assert words == report_words(a), (v, words, report_words(a))
+            assert [flat(o.sets), rows.narrow(o.roms)] == [a["set rows"], a["rom rows"]], v
             assert [o.image.reach(), o.image.tried, o.image.shown] == [a["reach"], a["reads tried"], a["reads tried, shown"]], v
-            calls = compare_calls(v["calls"], opening.lent_of(o, settings, v["set_words"], v["rom_words"]), image)
-        yield image, settings, v["set_words"], v["rom_words"], o, calls
+            calls = compare_calls(v["calls"], opening.lent_of(o, settings, *lengths), image)
+        yield image, settings, *lengths, o, calls
 
 
 def lent():
     """image, what is lent, the calls"""
-    rows, images = unpacked("lent-vectors.xz")
-    for v in rows:
+    told, images = unpacked("lent-vectors.xz")
+    for v in told:
         image, (flash, cs0, _) = images[v["at"] : v["at"] + v["length"]], v["settings"]
-        given = Lent(flash, cs0, v["line"], pins_words(v["pins"]), v["served"], v["set_rows"], v["rom_rows"])
+        given = Lent(flash, cs0, v["line"], pins_words(v["pins"]), v["served"], v["set_rows"], rows.widened(v["rom_rows"]))
         yield image, given, compare_calls(v["calls"], given, image)
 
 
@@ -101,7 +109,7 @@ def both_reads(calls):
 def own_boards():
     """image, settings, set words, ROM words, the calls, the cuts; the reads of a cut are compared with what that cut answered"""
     for v in unpacked("own-vectors.xz")[0]["opened"]:
-        image, lengths = image_of(v), (v["set_words"], v["rom_words"])
+        image, lengths = image_of(v), lengths_of(v)
         lent = opening.lent_of(opening.opening(image, v["settings"], *lengths), v["settings"], *lengths)
         first = [("own", i, address, levels, 1, 0, reply) for i, address, levels, reply in v["first"]]
         calls = compare_calls([*both_reads(v["calls"]), *first], lent, image)
@@ -112,10 +120,55 @@ def own_boards():
         yield image, v["settings"], *lengths, calls, [take for take, _, _ in v["cuts"]]
 
 
+def lent_as_told(v, roms):
+    """The pins are as lent beside a refused pins item too: number, ROM pins, data, address, control."""
+    number, rom_pins, *pins = v["pins"]
+    words = [number, 0, 0, 0, 0, 0, rom_pins] + pins[:27] + [0] * 3 + pins[27:] + [0] * 37
+    return Lent(*v["settings"], v["line"], words, v["served"], v["set_rows"], roms)
+
+
 def own_lent():
-    """image, what is lent, the calls; the pins are as lent beside a refused pins item too"""
+    """image, what is lent, the calls"""
     for v in unpacked("own-vectors.xz")[0]["lent"]:
-        number, rom_pins, *pins = v["pins"]
-        words = [number, 0, 0, 0, 0, 0, rom_pins] + pins[:27] + [0] * 3 + pins[27:] + [0] * 37
-        image, given = image_of(v), Lent(*v["settings"], v["line"], words, v["served"], v["set_rows"], v["rom_rows"])
+        image, given = image_of(v), lent_as_told(v, rows.widened(v["rom_rows"]))
         yield image, given, compare_calls(both_reads(v["calls"]), given, image)
+
+
+# ---- the widths of wish 3; ROM rows have eight words
+
+
+def width_strings():
+    """image, base, pointer, the reply"""
+    for image, base, pointer, reply in unpacked("width-vectors.xz")[0]["strings"]:
+        yield bytes.fromhex(image), base, pointer, reply
+
+
+def compare_opening(o, told):
+    """An opening as told: its number and, where it opens, both strings, the sets item and the names, and of a whole board the rows."""
+    assert o.number == told["opening"], (o.number, told)
+    names = [[reason, offset, length, width] for *_, offset, length, reason, width in o.roms]
+    shown = [o.part(opening.DATE), o.part(opening.REVISION), o.part(opening.SETS), names]
+    if o.number == 0:
+        assert shown == [told[k] for k in ("build_date", "revision", "sets", "names")], (shown, told)
+    if "set_rows" in told:
+        assert [flat(o.sets), flat(o.roms)] == [told["set_rows"], told["rom_rows"]], (o.sets, o.roms, told)
+
+
+def width_boards():
+    """image, settings, set words, ROM words, no calls, the cuts, the opening; a board that is told by its cuts alone has the whole among them"""
+    for v in unpacked("width-vectors.xz")[0]["opened"]:
+        image, settings, lengths, cuts = image_of(v), v["settings"], (v["set_words"], v["rom_words"]), v.get("cuts", [])
+        o = opening.opening(image, settings, *lengths)
+        assert "opening" in v or len(image) in [told["take"] for told in cuts], v
+        if "opening" in v:
+            compare_opening(o, v)
+        for told in cuts:
+            compare_opening(opening.opening(image[: told["take"]], settings, *lengths), told)
+        yield image, settings, *lengths, (), [told["take"] for told in cuts], o
+
+
+def width_lent():
+    """image, what is lent, the calls"""
+    for v in unpacked("width-vectors.xz")[0]["lent"]:
+        image, given = image_of(v), lent_as_told(v, v["rom_rows"])
+        yield image, given, compare_calls([(kind, i, address, levels, 1, 0, reply) for kind, i, address, levels, reply in v["calls"]], given, image)

@@ -6,7 +6,7 @@
 
 A line of stdin: a letter for the kind, then numbers of eight hexadecimal digits, then bytes in hexadecimal. stdout has its answer, decimal.
     r RAM-base record        the runtime record: number, and the words of include/onerom.h where it is accepted
-    s base pointer image     a string: number, offset, length
+    s base pointer image     a string: number, offset, length, width
     S base pointer image     a string by the call behind C's
     h base offset image      the header
     e base pointer major minor patch build image    extra info
@@ -15,12 +15,12 @@ A line of stdin: a letter for the kind, then numbers of eight hexadecimal digits
     d pins-number byte data-pins                    demangling: number, value
     g pins-number served set-words rom-words first count type address levels pins    mangling: number, value
     G the same without levels                       all 32 levels, CS1 changing fastest
-tests/data/*-vectors.jsonl and tests/data/mangle-vectors.txt are answers of another reader of document 01, and tests/data/oracle-sample.txt of the
-Rust (docs/ORACLE.md); where one of them differs from the models, this script stops.
+No line stands twice. tests/data/*-vectors.jsonl, mangle-vectors.txt and the strings of width-vectors.xz are answers of another reader of the
+documents, and tests/data/oracle-sample.txt of the Rust (docs/ORACLE.md); where one of them differs from the models, this script stops.
 """
 import json, os, random, struct
 
-import files, mangle, oracle, records, runtime
+import cases, files, given, mangle, oracle, records, runtime
 
 TOP = os.path.join(os.path.dirname(os.path.abspath(__file__)), "..", "..")
 B = 0x08000000
@@ -69,6 +69,28 @@ def string_cases():
     yield b"\xff" * 1024, B, B
     yield b"", B, B
     yield b"\0" * 64, 0, 0
+
+
+def chunked(text, before=b""):
+    """An image of whole chunks from a string on, which its NUL ends; before it stand some bytes."""
+    return before + (text + b"\0").ljust(64 * (len(text) // 64 + 1), b"\xff")
+
+
+def told_strings():
+    """Strings with their widths, counted by hand."""
+    base, e, euro, smile = 4096, b"\xc3\xa9", b"\xe2\x82\xac", b"\xf0\x9f\x98\x80"
+    for text, width in (*cases.WIDTHS, (255 * smile + euro, 256), (63 * b"A", 63), (61 * b"A" + e, 62), (63 * b"A" + e, 64)):
+        yield chunked(text, b"xyz"), base, base + 3, [0, 3, len(text), width]
+        if len(text) < 64:
+            # cut off in its chunk
+            yield chunked(text, b"xyz")[:-1], base, base + 3, [2, 0, 0, 0]
+    for text in (b"\xc0\x80", 511 * e + b"\xc3", b"\x80", 60 * b"A" + smile[:3]):
+        yield chunked(text, b"xyz"), base, base + 3, [21, 0, 0, 0]
+    yield 512 * e, base, base, [20, 0, 0, 0]
+    yield chunked(e, b"xyz"), base, base - 1, [3, 0, 0, 0]
+    # the last chunk below 2^32, and an image that passes it
+    yield chunked(e), 2**32 - 64, 2**32 - 64, [0, 0, 2, 1]
+    yield chunked(e), 2**32 - 63, 2**32 - 63, [1, 0, 0, 0]
 
 
 def header_bytes(**at):
@@ -174,19 +196,57 @@ def line(kind, *parts):
     return " ".join([kind] + [p.hex() if isinstance(p, bytes) else "%08x" % p for p in parts])
 
 
-def main():
-    out = []
-    cases, shown = runtime.cases(os.path.join(TOP, "tests/data/runtime-vectors.jsonl"))
-    for s, base in cases:
-        out.append((line("r", base, s), runtime.words(s, base)))
+def string_answer(image, base, pointer):
+    """By the call behind C's. The width is also the number of bytes that begin a character, and no character has more than four."""
+    number, offset, length, width = records.string_call(image, base, pointer)
+    assert width == sum(not 0x80 <= b <= 0xBF for b in image[offset : offset + length]) and width <= length <= 4 * width
+    return [number, offset, length, width]
+
+
+def strings():
+    """kind, what is given, the answer"""
     for image, base, pointer in string_cases():
-        out.append((line("s", base, pointer, image), records.string(image, base, pointer)))
+        yield "s", (base, pointer, image), records.string(image, base, pointer)
+    for image, base, pointer, told in told_strings():
+        assert string_answer(image, base, pointer) == told, (image, told)
+        yield "S", (base, pointer, image), told
     for text in open(os.path.join(TOP, "tests/data/strings-vectors.jsonl")):
         v = json.loads(text)
         image, base, pointer = bytes.fromhex(v["image"]), v["base"], v["pointer"]
-        answer = records.string_call(image, base, pointer)
-        assert [v["number"], v["offset"], v["length"]] == answer, v
-        out.append((line("S", base, pointer, image), answer))
+        answer = string_answer(image, base, pointer)
+        assert [v["number"], v["offset"], v["length"], v["points"]] == answer, v
+        yield "S", (base, pointer, image), answer
+    for image, base, pointer, told in given.width_strings():
+        answer = string_answer(image, base, pointer)
+        assert answer == told, (image.hex(), base, pointer, told, answer)
+        yield "S", (base, pointer, image), answer
+
+
+def mangles():
+    """kind, what is given, the answer"""
+    for text in open(os.path.join(TOP, "tests/data/mangle-vectors.txt")):
+        parts = text.split()
+        kind, numbers, pins, reply = parts[0], [int(n, 16) for n in parts[1:-3]], bytes.fromhex(parts[-3]), tuple(map(int, parts[-2:]))
+        call = mangle.widened(kind, (*numbers, pins))
+        assert mangle.answer(kind, call) == reply, text
+        yield kind, call, reply
+    for kind, call, reply in (*mangle.bench_cases(), *mangle.width_cases()):
+        assert mangle.answer(kind, call) == reply, call
+        yield kind, call, reply
+    for call in mangle.all_levels():
+        answers = []
+        for i in range(32):
+            levels = sum((i >> k & 1) << 4 * k for k in range(5))
+            answers += mangle.answer("g", (*call[:-1], levels, call[-1]))
+        yield "G", call, answers
+
+
+def main():
+    out = []
+    runtimes, shown = runtime.cases(os.path.join(TOP, "tests/data/runtime-vectors.jsonl"))
+    for s, base in runtimes:
+        out.append((line("r", base, s), runtime.words(s, base)))
+    out += [(line(kind, *parts), answer) for kind, parts, answer in strings()]
     for image, base, offset in header_cases():
         out.append((line("h", base, offset, image), records.header(image, base, offset)))
     for image, base, pointer, version in extra_cases():
@@ -195,24 +255,12 @@ def main():
         out.append((line("m", base, pointer, image), records.metadata(image, base, pointer)))
     for image, base, pointer in pins_cases():
         out.append((line("p", base, pointer, image), records.pins(image, base, pointer)))
-    for text in open(os.path.join(TOP, "tests/data/mangle-vectors.txt")):
-        parts = text.split()
-        kind, numbers, pins, reply = parts[0], [int(n, 16) for n in parts[1:-3]], bytes.fromhex(parts[-3]), tuple(map(int, parts[-2:]))
-        given = (*numbers, pins)
-        assert mangle.answer(kind, given) == reply, text
-        out.append((line(kind, *given), reply))
-    for kind, given, reply in mangle.bench_cases():
-        assert mangle.answer(kind, given) == reply, given
-        out.append((line(kind, *given), reply))
-    for given in mangle.all_levels():
-        answers = []
-        for i in range(32):
-            levels = sum((i >> k & 1) << 4 * k for k in range(5))
-            answers += mangle.answer("g", (*given[:-1], levels, given[-1]))
-        out.append((line("G", *given), answers))
-    out += oracle.records_and_mangles()
-    files.put("crates/vectors/stdin", "".join(given + "\n" for given, _ in out))
-    files.put("crates/vectors/stdout", "".join(" ".join(map(str, answer)) + (" \n" if given[0] == "G" else "\n") for given, answer in out))
+    out += [(line(kind, *parts), answer) for kind, parts, answer in (*mangles(), *oracle.records_and_mangles())]
+    out = list({text: (text, answer) for text, answer in out}.values())
+    stdin = "".join(text + "\n" for text, _ in out)
+    assert len(stdin) <= 2097152, len(stdin)
+    files.put("crates/vectors/stdin", stdin)
+    files.put("crates/vectors/stdout", "".join(" ".join(map(str, answer)) + (" \n" if text[0] == "G" else "\n") for text, answer in out))
     files.put("tests/data/runtime.txt", "".join("%s|%s\n" % (s.hex(), "|".join(runtime.text(s))) for s in shown))
     print(len(out), "vectors;", len(shown), "for the program runtime")
 

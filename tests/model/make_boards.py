@@ -12,8 +12,8 @@ A record of stdin is its length and then, packed (see `packed`), ten words, the 
     76  flash base, CS0 base, line, set words, ROM words, image length, calls, sets served, pins number; the pins' 88 bytes, the rows, the calls
         Calls on a report and rows as lent. One line.
 A call is 16 bytes: kind, levels (five digits to base 3, CS1 the lowest), u16 length, set, address, count. tests/data/boards-vectors.xz,
-lent-vectors.xz and own-vectors.xz are answers of another reader of the documents, the boards of oracle-sample.txt the Rust's; where one differs
-from opening.py, this script stops.
+lent-vectors.xz, own-vectors.xz and width-vectors.xz are answers of another reader of the documents, the boards of oracle-sample.txt the Rust's;
+where one differs from opening.py, this script stops.
 """
 import functools, random, re, struct
 
@@ -61,8 +61,9 @@ def packed(data):
 def report_line(o):
     if o.number:
         return [o.number, sum_of(o.words)]
-    items = [o.words[:33]]
-    for (at, n), refusable in ((opening.EXTRA, True), ((40, 4), False), (opening.PINS, True)):
+    metadata_and_sets = opening.METADATA[0], opening.METADATA[1] + opening.SETS[1]
+    items = [o.words[: opening.EXTRA[0]]]
+    for (at, n), refusable in ((opening.EXTRA, True), (metadata_and_sets, False), (opening.PINS, True)):
         items.append(o.words[at : at + (1 if refusable and o.words[at] else n)])
     return [0, sum_of(o.words)] + [w for item in items for w in item]
 
@@ -167,8 +168,8 @@ def the_rusts(out):
     """The boards and calls that the Rust answered (docs/ORACLE.md)."""
     for image, settings, set_words, rom_words, answer, asked in oracle.boards():
         o = opening.opening(image, settings, set_words, rom_words)
-        rows = [[w for row in rows for w in row] for rows in (o.sets, o.roms)]
-        assert (o.number, *((list(o.words), *rows) if o.number == 0 else ([], [], []))) == answer, (settings, answer)
+        shown = (list(o.words), given.flat(o.sets), given.flat(o.roms)) if o.number == 0 else ([], [], [])
+        assert (o.number, *shown) == answer, (settings, answer)
         calls = [opening.Call(*words) for words, _ in asked]
         lent = opening.lent_of(o, settings, set_words, rom_words)
         for c, (_, reply) in zip(calls, asked):
@@ -202,10 +203,20 @@ def the_other_readers_own(out):
     print("the other reader's reads of wish 1 agree: %d records, %d calls, %d cuts" % (out.records - records, out.calls - calls, out.cuts - cuts))
 
 
+def the_other_readers_widths(out):
+    records, calls, cuts = out.records, out.calls, out.cuts
+    for given_board in given.width_boards():
+        out.board(*given_board)
+    for given_report in given.width_lent():
+        out.lent(*given_report)
+    print("the other reader's widths agree: %d records, %d calls, %d cuts" % (out.records - records, out.calls - calls, out.cuts - cuts))
+
+
 def main():
     out = Out()
     the_other_readers(out)
     the_other_readers_own(out)
+    the_other_readers_widths(out)
     records, calls = out.records, out.calls
     the_rusts(out)
     print("the Rust's boards agree:", out.records - records, "boards,", out.calls - calls, "calls")

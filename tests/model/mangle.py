@@ -1,7 +1,11 @@
 """Document 01, "Mangling" and "Lent rows", read a second time, in Python, with the Rust's tables."""
 import json
 
+import rows
+from rows import NARROW, ROM_WORDS, SET_WORDS
+
 NONE = 255
+ONE_EACH = rows.words(1, 1)
 # type: mask, control pins in order with their input bits, levels in order CS1, CS2, CS3 with the bits they raise
 TYPES = {
     0: (0x7FF, (("cs1", 13), ("cs2", 11), ("cs3", 12)), (13, 12, 11)),
@@ -72,9 +76,9 @@ def mangle(pins_number, served, set_words, rom_words, first, count, kind, pins, 
         return 70, 0
     if served == 0:
         return 71, 0
-    if set_words < 8:
+    if set_words < SET_WORDS:
         return 4, 0
-    if count and (7 * first + 7 > rom_words or kind > 33):
+    if count and (ROM_WORDS * (first + 1) > rom_words or kind > 33):
         return 4, 0
     return core(pins[0], pins[9:25], dict(zip(CONTROLS, pins[25:32])), count, kind, address, levels)
 
@@ -88,7 +92,7 @@ def demangle(pins_number, data, byte):
 
 
 def from_lent(path):
-    """The mangle and demangle calls of another reader, each with its answer."""
+    """The mangle and demangle calls of another reader, on ROM rows of seven words, each with its answer."""
     for text in open(path):
         v = json.loads(text)
         p = v["pins"]
@@ -99,13 +103,18 @@ def from_lent(path):
         sets, roms = v["set_rows"], v["rom_rows"]
         first = sets[2] if len(sets) >= 8 else 0
         count = sets[3] if len(sets) >= 8 else 0
-        kind = roms[7 * first] if 7 * first < len(roms) else 0
+        kind = roms[NARROW * first] if NARROW * first < len(roms) else 0
         for c in v["calls"]:
             if c["kind"] == "mangle":
                 levels = sum((2 if x is None else int(x)) << 4 * i for i, x in enumerate(c["levels"]))
                 yield "g", (p["number"], v["served"], len(sets), len(roms), first, count, kind, c["address"], levels, bytes(pins)), tuple(c["reply"])
             elif c["kind"] == "demangle":
                 yield "d", (p["number"], c["address"], bytes(pins[1:9])), tuple(c["reply"])
+
+
+def widened(kind, given):
+    """A call on ROM rows of seven words, as it is on rows of eight."""
+    return given if kind == "d" else (*given[:3], rows.widened_length(given[3]), *given[4:])
 
 
 def answer(kind, given):
@@ -128,16 +137,16 @@ def all_levels():
             for count in (0, 1, 2):
                 mask = TYPES[kind][0] if kind in TYPES else 0
                 for address in (0, mask, mask + 1):
-                    yield 0, 1, 8, 7, 0, count, kind, address, bytes(board)
+                    yield 0, 1, *ONE_EACH, 0, count, kind, address, bytes(board)
     for at in range(25, 32):
         for pin in (15, 16, 17, 255):
             for kind in (0, 3, 8, 14, 26):
                 board = list(BOARD28)
                 board[at] = pin
-                yield 0, 1, 8, 7, 0, 1, kind, 1, bytes(board)
+                yield 0, 1, *ONE_EACH, 0, 1, kind, 1, bytes(board)
                 board = list(BOARD24)
                 board[at] = min(255, pin + 8)
-                yield 0, 1, 8, 7, 0, 2, kind, 1, bytes(board)
+                yield 0, 1, *ONE_EACH, 0, 2, kind, 1, bytes(board)
 
 
 def bench_cases():
@@ -146,7 +155,16 @@ def bench_cases():
     yield "d", (0, 1, bytes([7, 6, 5, 8, 3, 2, 1, 0])), (79, 0)
     for up in (0, 8):
         pins = bytes([24] + [255] * 8 + [up + p for p in range(13)] + [255] * 3 + [up + 13] + [255] * 6)
-        yield "g", (0, 1, 8, 7, 0, 1, 2, 5, 0x22221, pins), (0, 8197)
-        yield "g", (0, 1, 8, 7, 0, 1, 2, 8192, 0x22221, pins), (77, 0)
+        yield "g", (0, 1, *ONE_EACH, 0, 1, 2, 5, 0x22221, pins), (0, 8197)
+        yield "g", (0, 1, *ONE_EACH, 0, 1, 2, 8192, 0x22221, pins), (77, 0)
     pins = bytes([24] + [255] * 8 + list(range(11)) + [255] * 5 + [13, 11, 12] + [255] * 4)
-    yield "g", (0, 1, 8, 7, 0, 1, 0, 0, 0x22212, pins), (0, 4096)
+    yield "g", (0, 1, *ONE_EACH, 0, 1, 0, 0, 0x22212, pins), (0, 4096)
+
+
+def width_cases():
+    """Rows of M1's board that end early: a ROM row without its width is not lent whole (document 02, wish 3)."""
+    pins = bytes([24] + [255] * 8 + list(range(13)) + [255] * 3 + [13] + [255] * 6)
+    for first, words, reply in (0, 7, (4, 0)), (0, 8, (0, 8197)), (1, 15, (4, 0)), (1, 16, (0, 8197)), (2**29 - 1, 512, (4, 0)), (2**29, 512, (4, 0)):
+        yield "g", (0, 1, SET_WORDS, words, first, 1, 2, 5, 0x22221, pins), reply
+    # without ROMs none is needed
+    yield "g", (0, 1, SET_WORDS, 7, 0, 0, 2, 5, 0x22221, pins), (74, 0)

@@ -1,13 +1,14 @@
-"""Document 01, "ROM sets and ROM infos", "Report", "ROM data", "Lent rows" and "Same set", and the read of document 02's wish 1, read a second
-time, in Python."""
+"""Document 01, "ROM sets and ROM infos", "Report", "ROM data", "Lent rows" and "Same set", and of document 02 the read of wish 1 and the widths of
+wish 3, read a second time, in Python."""
 import mangle, records
 from records import NONE, u32
+from rows import ROM_WORDS, SET_WORDS
 
 TOP = 2**32
 NOT_LOOKED_FOR = 256
 # the report as words: where each item starts, and how long it is
-FIELDS, DATE, REVISION, EXTRA, METADATA, SETS, PINS = (0, 27), (27, 3), (30, 3), (33, 7), (40, 1), (41, 3), (44, 78)
-NO_REPORT = [0] * 33 + [0, 0, 0, 0, 0, 2, NONE] + [NOT_LOOKED_FOR] + [0] * 81
+FIELDS, DATE, REVISION, EXTRA, METADATA, SETS, PINS = (0, 27), (27, 4), (31, 4), (35, 7), (42, 1), (43, 3), (46, 78)
+NO_REPORT = [0] * 35 + [0, 0, 0, 0, 0, 2, NONE] + [NOT_LOOKED_FOR] + [0] * 81
 
 
 class Image:
@@ -33,11 +34,11 @@ class Image:
 
 
 def name_of(image, base, pointer):
-    """offset, length, reason of a ROM's name; no pointer read is None"""
+    """offset, length, reason, width of a ROM's name; no pointer read is None"""
     if pointer is None or pointer < base or pointer == NONE:
-        return [0, 0, 1]
-    number, offset, length = records.string(image, base, pointer)
-    return [offset, length, number]
+        return [0, 0, 1, 0]
+    number, offset, length, width = records.string(image, base, pointer)
+    return [offset, length, number, width]
 
 
 def rom_infos(image, base, table, count, filenames, names):
@@ -139,11 +140,16 @@ def opening(data, settings, set_words, rom_words):
     else:
         number, sets, roms = walk(image, base, version, logging, count, pointer)
     words += [mark, number, count, 0 if number else count] + records.pins(image, base, pins)
-    if number == 0 and set_words < 8 * len(sets):
+    if number == 0 and set_words < SET_WORDS * len(sets):
         return Opened(44, image)
-    if number == 0 and rom_words < 7 * len(roms):
+    if number == 0 and rom_words < ROM_WORDS * len(roms):
         return Opened(45, image)
     return Opened(0, image, words, sets, roms)
+
+
+def without_widths(words):
+    """A report's words as document 01 has them: of the two strings number, offset and length."""
+    return [*words[: REVISION[0] - 1], *words[REVISION[0] : EXTRA[0] - 1], *words[EXTRA[0] :]]
 
 
 def pattern(n):
@@ -168,14 +174,14 @@ class Lent:
         self.flash, self.cs0, self.line, self.pins, self.served, self.sets, self.roms = flash, cs0, line, pins, served, sets, roms
 
     def set_row(self, i):
-        return self.sets[8 * i : 8 * i + 8] if 8 * i + 8 <= len(self.sets) else None
+        return self.sets[SET_WORDS * i : SET_WORDS * (i + 1)] if SET_WORDS * (i + 1) <= len(self.sets) else None
 
     def types(self, row):
         """The types of the ROM rows of a set, or None where a row is lacking or a type is above 33."""
         first, count = row[2], row[3]
-        if count and 7 * (first + count) > len(self.roms):
+        if count and ROM_WORDS * (first + count) > len(self.roms):
             return None
-        kinds = [self.roms[7 * r] for r in range(first, first + count)]
+        kinds = [self.roms[ROM_WORDS * r] for r in range(first, first + count)]
         return kinds if all(k <= 33 for k in kinds) else None
 
     def governs(self, i):
@@ -185,8 +191,8 @@ class Lent:
             return None
         if row[3] == 0:
             return 0, 0
-        first = 7 * row[2]
-        if first + 7 > len(self.roms) or self.roms[first] > 33:
+        first = ROM_WORDS * row[2]
+        if first + ROM_WORDS > len(self.roms) or self.roms[first] > 33:
             return None
         return row[3], self.roms[first]
 

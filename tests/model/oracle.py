@@ -1,5 +1,5 @@
 """The sample of the oracle's answers, tests/data/oracle-sample.txt: the Rust's, where document 01 adds nothing (docs/ORACLE.md).
-tests/oracle/host/src/sample.rs says how a line is written."""
+tests/oracle/host/src/sample.rs says how a line is written. Its widths are Rust's counts of `char`s."""
 import os
 
 import mangle, records, runtime
@@ -17,17 +17,17 @@ def lines(kinds):
 
 
 def records_and_mangles():
-    """Runtime records, strings, mangles and demangles, each with its answer, which the models must give too."""
-    for given, kind, parts, answer in lines("rSgd"):
-        numbers, bs, answer = [int(n, 16) for n in parts[:-1]], bytes.fromhex(parts[-1]), [int(n) for n in answer.split()]
+    """Runtime records, strings, mangles and demangles: kind, what is given, and the models' answer, which the sample's must be."""
+    for text, kind, parts, told in lines("rSgd"):
+        given, told = (*(int(n, 16) for n in parts[:-1]), bytes.fromhex(parts[-1])), words(told)
         if kind == "r":
-            model = runtime.words(bs, *numbers)
+            model = runtime.words(given[-1], *given[:-1])
         elif kind == "S":
-            model = records.string_call(bs, *numbers)
+            model = records.string_call(given[-1], *given[:-1])
         else:
-            model = list(mangle.answer(kind, (*numbers, bs)))
-        assert model == answer, (given, model, answer)
-        yield given, answer
+            model = list(mangle.answer(kind, given))
+        assert model == told, (text, model, told)
+        yield kind, given, model
 
 
 def words(text):
@@ -49,8 +49,8 @@ def boards():
         if kind == "c":
             found[-1][-1].append(call(parts, answer))
             continue
-        numbers = [int(n, 16) for n in parts[:-1]]
+        *settings, set_words, rom_words = [int(n, 16) for n in parts[:-1]]
         number, *rest = answer.split(";")
         report, sets, roms = [words(part) for part in rest] or [[], [], []]
-        found.append((bytes.fromhex(parts[-1]), numbers[:3], *numbers[3:], (int(number), report, sets, roms), []))
+        found.append((bytes.fromhex(parts[-1]), settings, set_words, rom_words, (int(number), report, sets, roms), []))
     return found

@@ -25,33 +25,34 @@ def read(image, base, a, n):
     return None
 
 
-def is_utf8(s):
+def width_of(s):
+    """The code points of a string, by Python's own decoder (document 02, wish 3); None where it is not UTF-8."""
     try:
-        s.decode("utf-8", "strict")
-        return True
+        return len(s.decode("utf-8", "strict"))
     except UnicodeDecodeError:
-        return False
+        return None
 
 
 def string(image, base, pointer):
-    """number, offset, length"""
+    """number, offset, length, width"""
     if pointer < base:
-        return [3, 0, 0]
+        return [3, 0, 0, 0]
     found = b""
     for chunk in range(16):
         bs = read(image, base, pointer + 64 * chunk, 64)
         if bs is None:
-            return [2, 0, 0]
+            return [2, 0, 0, 0]
         if 0 in bs:
             found += bs[: bs.index(0)]
-            return [0, pointer - base, len(found)] if is_utf8(found) else [21, 0, 0]
+            width = width_of(found)
+            return [21, 0, 0, 0] if width is None else [0, pointer - base, len(found), width]
         found += bs
-    return [20, 0, 0]
+    return [20, 0, 0, 0]
 
 
 def string_call(image, base, pointer):
     """The exported call checks the base that it is given."""
-    return [1, 0, 0] if base + len(image) > 2**32 else string(image, base, pointer)
+    return [1, 0, 0, 0] if base + len(image) > 2**32 else string(image, base, pointer)
 
 
 def header(image, flash_base, info_offset):

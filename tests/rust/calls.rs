@@ -1,4 +1,5 @@
-//! The wrapper's read by the set's own ROMs, on the sample boards, whose ROMs hold numbered lines of text (samples/make.py).
+//! The wrapper's read by the set's own ROMs, on the sample boards, whose ROMs hold numbered lines of text (samples/make.py); and its strings and
+//! names, with their widths.
 
 #[path = "../../examples/rust/onerom.rs"]
 mod onerom;
@@ -70,8 +71,46 @@ fn several_roms() {
     assert!(seen(&mut board, 1, &high(&[LEVEL_X1, LEVEL_X2])) == text("jib.bin")[..2048], "jib.bin");
 }
 
+/// A string that is accepted, and one that isn't; Rust counts its characters too.
+fn strings() {
+    for text in ["", "A", "\u{e9}", "\u{20ac}", "\u{1f600}", "e\u{301}", "grand-voile d'\u{e9}tai"] {
+        let image = [b"xyz", text.as_bytes(), &[0; 64]].concat();
+        assert_eq!(string(&image, FLASH_BASE, FLASH_BASE + 3), Ok((text, text.chars().count() as u32)));
+        assert_eq!(string(&image[..66], FLASH_BASE, FLASH_BASE + 3), Err(Refused(REFUSED_ENDED)));
+    }
+    let longest = "\u{e9}".repeat(511) + "a";
+    assert_eq!(string((longest.clone() + "\0").as_bytes(), 0, 0), Ok((longest.as_str(), 512)));
+    assert_eq!(string(&[0xc3; 1024], 0, 0), Err(Refused(REFUSED_NO_NUL)));
+    assert_eq!(string(&[], FLASH_BASE, FLASH_BASE - 1), Err(Refused(REFUSED_BELOW_BASE)));
+}
+
+/// The names and texts of the sample boards are as wide as they have characters.
+fn widths() {
+    for name in ["rp2350.img", "multi.img", "mixed.img", "stm32.img", "damaged.img"] {
+        let image = sample(name);
+        let board = opened(&image);
+        let sets: Vec<_> = (0..board.report.rom_sets.served).filter_map(|i| board.set(i)).collect();
+        let rows = sets.iter().flat_map(|set| set[SET_FIRST_ROM]..set[SET_FIRST_ROM] + set[SET_ROM_COUNT]);
+        let texts = [board.report.build_date, board.report.hw_rev].map(|text| board.text(text));
+        let named: Vec<_> = rows.map(|row| board.name(row)).chain(texts).flatten().collect();
+        for (text, width) in &named {
+            assert_eq!(text.chars().count() as u32, *width, "{name}: {text}");
+        }
+        assert!(named.len() >= 3, "{name} has names");
+    }
+    let image = sample("mixed.img");
+    let named = opened(&image);
+    assert_eq!(named.name(1), Some(("g\u{e9}nois.bin", 10)));
+    let image = sample("rp2350.img");
+    let board = opened(&image);
+    assert_eq!(board.name(0), Some(("genoa.bin", 9)));
+    assert_eq!(board.text(board.report.build_date), Some(("2025-09-12 10:41", 16)));
+}
+
 fn main() {
     one_rom_each();
     several_roms();
+    strings();
+    widths();
     println!("ok");
 }

@@ -65,8 +65,9 @@ fn items(image: &[u8], r: &Report) {
     check("usb_port", &[e.usb_port], &[PORT_C]);
     check("vbus_pin", &[e.vbus_pin], at(6, 1));
     check("runtime_info_ptr", &e.runtime_info_ptr.to_le_bytes(), at(8, 4));
-    check("build_date", format!("{} {}", r.build_date.offset, r.build_date.length).as_bytes(), b"640 10");
-    check("hw_rev", format!("{} {}", r.hw_rev.offset, r.hw_rev.length).as_bytes(), b"704 6");
+    let part = |t: Text| format!("{} {} {}", t.offset, t.length, t.width);
+    check("build_date", part(r.build_date).as_bytes(), b"640 12 11");
+    check("hw_rev", part(r.hw_rev).as_bytes(), b"704 6 5");
     check("metadata", &[r.metadata.looked_for], &[1]);
     check("rom_sets", &[r.rom_sets.rom_set_count, r.rom_sets.served as u8], &[2, 2]);
     check("no item is refused", &r.items(), &[0; 6]);
@@ -111,6 +112,7 @@ fn refused(image: &[u8]) {
     check("refused sets", &[r.rom_sets.number, r.rom_sets.rom_set_count, r.rom_sets.served as u8], &[42, 2, 0]);
     check("refused metadata", &[r.metadata.looked_for, r.metadata.number], &[1, 0]);
     check("refused extra info", &[r.extra_info.fire_pio_default], &[PIO_NOT_GIVEN]);
+    assert_eq!([r.build_date, r.hw_rev].map(|t| [t.offset, t.length, t.width]), [[0; 3]; 2]);
 }
 
 fn rows(board: &Board) {
@@ -121,9 +123,12 @@ fn rows(board: &Board) {
     assert_eq!(addresses, [FLASH_BASE + 0x10204, 0x40507, FLASH_BASE + 1792, FLASH_BASE + 1856]);
     let rom = board.rom(4).expect("ROM 4 has a row");
     assert_eq!([ROM_TYPE, ROM_CS1, ROM_CS2, ROM_CS3].map(|word| rom[word]), [TYPE_ROM27C200, 0, 1, 2]);
-    assert_eq!([ROM_NAME_OFFSET, ROM_NAME_LENGTH, ROM_NAME_REASON].map(|word| rom[word]), [1732, 4, 0]);
-    assert_eq!(board.name(4), Some("sail"));
-    assert_eq!(board.rom(3).map(|rom| rom[ROM_NAME_REASON]), Some(NO_NAME));
+    assert_eq!([ROM_NAME_OFFSET, ROM_NAME_LENGTH, ROM_NAME_REASON, ROM_NAME_WIDTH].map(|word| rom[word]), [1732, 4, 0, 3]);
+    assert_eq!(board.name(4), Some(("s\u{e9}l", 3)));
+    assert_eq!(board.rom(3).map(|rom| (rom[ROM_NAME_REASON], rom[ROM_NAME_WIDTH])), Some((NO_NAME, 0)));
+    assert_eq!(board.name(3), None);
+    assert_eq!(board.text(board.report.build_date), Some(("5 ao\u{fb}t 2026", 11)));
+    assert_eq!(board.text(board.report.hw_rev), Some(("pi\u{e8}ce", 5)));
 }
 
 fn opened(image: &[u8]) -> Board<'_> {

@@ -5,7 +5,7 @@
 //   %o on or off          %f the same as 1 or 0     %w what a number means    %m what a name's number means
 //   %a a chip-select state in one word              %e, %h what a comparison shows, for a person and for a script
 //   %_ nothing: the number is passed over           %0, %1 the first number and the second, decimal, once more
-//   %g ", by set 0" for 1, nothing for 0
+//   %g ", by set 0" for 1, nothing for 0            %u a count of characters
 #![tactic(auto)]
 
 mod names;
@@ -31,7 +31,8 @@ fn put(out: &mut Out, letter: u8, n: u32) {
         b'x' => bench_out::hex(out, n, 8),
         b'b' => bench_out::hex(out, n, 2),
         b'n' => names::pin(out, n),
-        b'r' => names::rom_count(out, n),
+        b'r' => names::how_many(out, n, b" ROM"),
+        b'u' => names::how_many(out, n, b" character"),
         b'w' => names::words(out, n),
         b'm' => names::words_of_name(out, n),
         _ => names::named(out, letter, n),

@@ -100,10 +100,10 @@ pub(crate) fn pin(out: &mut Out, n: u32) {
     }
 }
 
-// "1 ROM", "2 ROMs"
-pub(crate) fn rom_count(out: &mut Out, n: u32) {
+// "1 ROM", "2 ROMs", by the word for one
+pub(crate) fn how_many(out: &mut Out, n: u32, one: &[u8]) {
     bench_out::number(out, n);
-    bench_out::text(out, b" ROM");
+    bench_out::text(out, one);
     if n != 1 {
         bench_out::byte(out, b's');
     }

@@ -80,7 +80,7 @@ fn length_by(b: u8) -> usize
 }
 
 // How many bytes the character at an index has; 1 where there is none.
-fn width(s: &[u8], at: usize) -> usize
+fn length_at(s: &[u8], at: usize) -> usize
     requires { at < length s.now }
     ensures { (1 ≤ result) × (at + result ≤ length s.now) }
 {
@@ -98,7 +98,7 @@ fn width(s: &[u8], at: usize) -> usize
 pub fn shown(out: &mut Out, s: &[u8]) {
     let mut at = 0;
     while at < s.len() {
-        let end = at + width(s, at);
+        let end = at + length_at(s, at);
         one(out, &s[at..end]);
         at = end;
     }

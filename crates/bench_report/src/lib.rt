@@ -23,13 +23,13 @@ fn outcome(number: u8, is_own: bool) -> u8 {
     if is_own { 2 } else { 1 }
 }
 
-// A text of the dump, or why there is none.
+// A text of the dump, or why there is none. The last pair stands behind a text: for a script, its width.
 fn words(out: &mut Out, forms: &[u8], image: &[u8], t: Text) {
     let n = t.number as u32;
     choice(out, forms, outcome(t.number, false), &[n, n]);
     if n == 0 {
         bench_out::shown(out, text::string_part(image, t));
-        bench_out::byte(out, b'\n');
+        choice(out, forms, 2, &[t.width]);
     }
 }
 
@@ -75,14 +75,16 @@ pub fn records(
     words(
         out,
         b"Build date         |build_date.number 0\nbuild_date.text |\
-        Build date         refused with %d: %w\n|build_date.number %d\nbuild_date.reason %w\n",
+        Build date         refused with %d: %w\n|build_date.number %d\nbuild_date.reason %w\n|\
+        \n|\nbuild_date.width %d\n",
         image,
         date,
     );
     words(
         out,
         b"Hardware revision  |hw_rev.number 0\nhw_rev.text |\
-        Hardware revision  refused with %d: %w\n|hw_rev.number %d\nhw_rev.reason %w\n",
+        Hardware revision  refused with %d: %w\n|hw_rev.number %d\nhw_rev.reason %w\n|\
+        \n|\nhw_rev.width %d\n",
         image,
         rev,
     );

@@ -2,7 +2,7 @@
 #![tactic(auto)]
 
 ghost use Rattle.std.specs.Prelude.{◌≡◌, ◌*◌, length};
-ghost use Rattle.rows.specs.LentRows.{setWidth, romWidth};
+ghost use Rattle.rows.specs.LentRows.{setRowLength, romRowLength};
 
 use board::Board;
 use rows::{RomWord, SetWord};
@@ -11,23 +11,24 @@ use text::Text;
 
 // Rows for 255 sets, and for 4,096 ROMs. The contracts give the lengths alone.
 pub fn set_space() -> [u32; 255 * rows::SET_WORDS]
-    ensures { 255 * setWidth ≡ length result }
+    ensures { 255 * setRowLength ≡ length result }
 {
     [0; 255 * rows::SET_WORDS]
 }
 
 pub fn rom_space() -> [u32; 4096 * rows::ROM_WORDS]
-    ensures { 4096 * romWidth ≡ length result }
+    ensures { 4096 * romRowLength ≡ length result }
 {
     [0; 4096 * rows::ROM_WORDS]
 }
 
-// A ROM's name: its part of the dump, or the number of why it is missing.
+// A ROM's name: its part of the dump and its width, or the number of why it is missing.
 pub fn name_of(rom_rows: &[u32], row: u32) -> Text {
     Text {
         number: (rows::rom_word(rom_rows, row, RomWord::NameReason) % 256) as u8,
         offset: rows::rom_word(rom_rows, row, RomWord::NameOffset),
         length: rows::rom_word(rom_rows, row, RomWord::NameLength),
+        width: rows::rom_word(rom_rows, row, RomWord::NameWidth),
     }
 }
 

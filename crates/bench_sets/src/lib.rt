@@ -9,12 +9,13 @@ use rows::{RomWord, SetWord};
 use sets_item::SetsItem;
 use text::Text;
 
+// A ROM's name. For a person the name's width stands on the line below, in front of the chip selects: the name itself can end in anything.
 fn rom_name(out: &mut Out, image: &[u8], set: u32, k: u32, name: Text) {
     let n = name.number as u32;
     choice(
         out,
         b"file |%_%_set.%0.rom.%1.name.number %d\nset.%0.rom.%1.name.text |\
-        no name (%_%_%d: %m)\n|%_%_set.%0.rom.%1.name.number %d\nset.%0.rom.%1.name.reason %m\n",
+        no name (%_%_%d: %m)\n         |%_%_set.%0.rom.%1.name.number %d\nset.%0.rom.%1.name.reason %m\n",
         (n != 0) as u8,
         &[set, k, n, n],
     );
@@ -22,10 +23,14 @@ fn rom_name(out: &mut Out, image: &[u8], set: u32, k: u32, name: Text) {
         return;
     }
     bench_out::shown(out, text::string_part(image, name));
-    bench_out::byte(out, b'\n');
+    told(
+        out,
+        b"\n         %_%_%u; |\nset.%d.rom.%d.name.width %d\n",
+        &[set, k, name.width],
+    );
 }
 
-// The chip selects: for a person on a line below the name.
+// For a person the chip selects end the line below the name.
 fn rom(out: &mut Out, image: &[u8], rom_rows: &[u32], row: u32, set: u32, k: u32) {
     let t = rows::rom_word(rom_rows, row, RomWord::Type);
     let c1 = rows::rom_word(rom_rows, row, RomWord::Cs1);
@@ -38,7 +43,7 @@ fn rom(out: &mut Out, image: &[u8], rom_rows: &[u32], row: u32, set: u32, k: u32
         &[set, k, t, c1, c2, c3],
     );
     rom_name(out, image, set, k, bench_rows::name_of(rom_rows, row));
-    told(out, b"         CS1 %c, CS2 %c, CS3 %c\n", &[c1, c2, c3]);
+    told(out, b"CS1 %c, CS2 %c, CS3 %c\n", &[c1, c2, c3]);
 }
 
 fn roms(out: &mut Out, image: &[u8], set_rows: &[u32], rom_rows: &[u32], set: u32) {

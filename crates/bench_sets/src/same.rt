@@ -47,13 +47,14 @@ fn names(image: &[u8], set_rows: &[u32], rom_rows: &[u32], a: u32, b: u32) -> u3
     0
 }
 
-// A set's stored bytes as a part of the dump.
+// A set's stored bytes as a part of the dump. They are no text, and have no width.
 fn stored(image: &[u8], base: u32, served: u32, set_rows: &[u32], set: u32) -> Text {
     let f = bench_rows::found(image, base, served, set_rows, set);
     Text {
         number: f.number,
         offset: (f.at % 4294967296) as u32,
         length: rows::set_word(set_rows, set, SetWord::Size),
+        width: 0,
     }
 }
 

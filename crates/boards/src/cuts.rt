@@ -15,34 +15,48 @@ struct Cut {
     whole: SdrrInfo,
 }
 
-// ---- items: where each starts among the report's words
+// ---- items
 
 // An item of the cut is ended, or equal to the whole's.
-fn item_holds(whole: &[u32; 122], cut: &[u32; 122], from: usize, n: usize) -> bool {
+fn item_holds(
+    whole: &[u32; report::WORDS],
+    cut: &[u32; report::WORDS],
+    from: usize,
+    n: usize,
+) -> bool {
     if report::at(cut, from) == 2 {
         return true;
     }
     report::same(whole, cut, from, n)
 }
 
+// A text of the cut is ended and shows nothing, its offset, length and width 0; or it is the whole's.
+fn text_holds(whole: &[u32; report::WORDS], cut: &[u32; report::WORDS], from: usize) -> bool {
+    let ended = [2, 0, 0, 0];
+    if words::same_all(words::part(cut, from, report::TEXT_WORDS), &ended) {
+        return true;
+    }
+    report::same(whole, cut, from, report::TEXT_WORDS)
+}
+
 // All items but the sets item.
-fn items_hold(whole: &[u32; 122], cut: &[u32; 122]) -> bool {
-    if !report::same(whole, cut, 0, 27) {
+fn items_hold(whole: &[u32; report::WORDS], cut: &[u32; report::WORDS]) -> bool {
+    if !report::same(whole, cut, 0, report::FIELD_WORDS) {
         return false;
     }
-    if !item_holds(whole, cut, 27, 3) {
+    if !text_holds(whole, cut, report::BUILD_DATE) {
         return false;
     }
-    if !item_holds(whole, cut, 30, 3) {
+    if !text_holds(whole, cut, report::HW_REV) {
         return false;
     }
-    if !item_holds(whole, cut, 33, 7) {
+    if !item_holds(whole, cut, report::EXTRA_INFO, report::EXTRA_INFO_WORDS) {
         return false;
     }
-    if !item_holds(whole, cut, 40, 1) {
+    if !item_holds(whole, cut, report::METADATA, 1) {
         return false;
     }
-    item_holds(whole, cut, 44, 78)
+    item_holds(whole, cut, report::PINS, report::PINS_WORDS)
 }
 
 // Whether two ROM rows agree in a word.
@@ -55,7 +69,18 @@ fn name_ends(row: &[u32]) -> bool {
     rows::rom_word(row, 0, RomWord::NameReason) == 2
 }
 
-// A ROM row: type and states are the whole's, and its name is ended or the whole's.
+// A missing name shows nothing: its offset, length and width are 0.
+fn shows_no_name(row: &[u32]) -> bool {
+    if rows::rom_word(row, 0, RomWord::NameOffset) != 0 {
+        return false;
+    }
+    if rows::rom_word(row, 0, RomWord::NameLength) != 0 {
+        return false;
+    }
+    rows::rom_word(row, 0, RomWord::NameWidth) == 0
+}
+
+// A ROM row: type and states are the whole's. The name is ended, or its words, the width among them, are the whole's.
 fn rom_row_holds(whole: &[u32], cut: &[u32]) -> bool {
     if !same_word(whole, cut, RomWord::Type) {
         return false;
@@ -70,7 +95,7 @@ fn rom_row_holds(whole: &[u32], cut: &[u32]) -> bool {
         return false;
     }
     if name_ends(cut) {
-        return true;
+        return shows_no_name(cut);
     }
     words::same_all(whole, cut)
 }
@@ -105,38 +130,38 @@ fn name_ended(roms: &[u32]) -> bool {
 }
 
 // Whether one of the report's items is ended.
-fn item_ended(cut: &[u32; 122]) -> bool {
-    if report::at(cut, 27) == 2 {
+fn item_ended(cut: &[u32; report::WORDS]) -> bool {
+    if report::at(cut, report::BUILD_DATE) == 2 {
         return true;
     }
-    if report::at(cut, 30) == 2 {
+    if report::at(cut, report::HW_REV) == 2 {
         return true;
     }
-    if report::at(cut, 33) == 2 {
+    if report::at(cut, report::EXTRA_INFO) == 2 {
         return true;
     }
-    if report::at(cut, 40) == 2 {
+    if report::at(cut, report::METADATA) == 2 {
         return true;
     }
-    if report::at(cut, 41) == 2 {
+    if report::at(cut, report::SETS) == 2 {
         return true;
     }
-    report::at(cut, 44) == 2
+    report::at(cut, report::PINS) == 2
 }
 
 // The sets item is ended and no row is written; or it and its rows, names aside, are the whole's.
 fn sets_hold(
-    whole: &[u32; 122],
-    cut: &[u32; 122],
+    whole: &[u32; report::WORDS],
+    cut: &[u32; report::WORDS],
     sets: &[u32],
     roms: &[u32],
     cut_sets: &[u32],
     cut_roms: &[u32],
 ) -> bool {
-    if report::at(cut, 41) == 2 {
+    if report::at(cut, report::SETS) == 2 {
         return base::both(words::is_untouched(cut_sets), words::is_untouched(cut_roms));
     }
-    if !report::same(whole, cut, 41, 3) {
+    if !report::same(whole, cut, report::SETS, report::SETS_WORDS) {
         return false;
     }
     if !words::same_all(sets, cut_sets) {
@@ -147,8 +172,8 @@ fn sets_hold(
 
 // A cut that opens, below the reach.
 fn ended_holds(
-    whole: &[u32; 122],
-    cut: &[u32; 122],
+    whole: &[u32; report::WORDS],
+    cut: &[u32; report::WORDS],
     sets: &[u32],
     roms: &[u32],
     cut_sets: &[u32],
@@ -165,14 +190,14 @@ fn ended_holds(
 
 // A cut that opens, at or past the reach.
 fn equal_holds(
-    whole: &[u32; 122],
-    cut: &[u32; 122],
+    whole: &[u32; report::WORDS],
+    cut: &[u32; report::WORDS],
     sets: &[u32],
     roms: &[u32],
     cut_sets: &[u32],
     cut_roms: &[u32],
 ) -> bool {
-    if !report::same(whole, cut, 0, 122) {
+    if !report::same(whole, cut, 0, report::WORDS) {
         return false;
     }
     if !words::same_all(sets, cut_sets) {
@@ -189,8 +214,8 @@ fn refusal_holds(cut_sets: &[u32], cut_roms: &[u32], number: u8, below: bool) ->
 
 // A cut that opens.
 fn opened_holds(
-    whole: &[u32; 122],
-    cut: &[u32; 122],
+    whole: &[u32; report::WORDS],
+    cut: &[u32; report::WORDS],
     sets: &[u32],
     roms: &[u32],
     cut_sets: &[u32],

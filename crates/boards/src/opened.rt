@@ -23,7 +23,7 @@ pub(crate) fn open(image: &[u8], s: Settings, sets: &mut [u32], roms: &mut [u32]
 }
 
 // The number and the report; of a refusal the number and the report's sum.
-fn show_report(rt: &impl Print, number: u8, report: &[u32; 122]) -> io::Result<()> {
+fn show_report(rt: &impl Print, number: u8, report: &[u32; report::WORDS]) -> io::Result<()> {
     show::first(rt, number as u32)?;
     if number == 0 {
         report::show(rt, report)?;
@@ -34,9 +34,9 @@ fn show_report(rt: &impl Print, number: u8, report: &[u32; 122]) -> io::Result<(
 }
 
 // The sum of a whole buffer of rows, then the words of its rows, n of them; of more than 16 rows the first and the last.
-fn show_rows(rt: &impl Print, buffer: &[u32], width: u8, n: usize) -> io::Result<()> {
+fn show_rows(rt: &impl Print, buffer: &[u32], row_words: u8, n: usize) -> io::Result<()> {
     show::first(rt, words::sum(buffer))?;
-    let w = width as usize;
+    let w = row_words as usize;
     if n <= 16 * w {
         show::words(rt, words::part(buffer, 0, n))?;
     } else {

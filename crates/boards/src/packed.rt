@@ -14,7 +14,7 @@ fn put(to: &mut [u8], at: usize, b: u8) -> usize {
 }
 
 // How many packed bytes the step takes that starts with c.
-fn width(c: u8) -> usize
+fn packed_bytes(c: u8) -> usize
     ensures { (0 < result) × (result < 130) }
 {
     if c < 128 {
@@ -74,7 +74,7 @@ pub(crate) fn unpack(to: &mut [u8], packed: &[u8]) -> usize {
     let mut from = 0;
     while from < packed.len() {
         end = step(to, end, record::from(packed, from));
-        from += width(packed[from]);
+        from += packed_bytes(packed[from]);
     }
     end
 }

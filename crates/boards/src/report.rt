@@ -1,4 +1,4 @@
-// The report as 122 words: the header's fields, build date, revision, extra info, metadata, sets, pins. A refused item's words are in it too.
+// The report as words: the header's fields, build date, revision, extra info, metadata, sets, pins. A refused item's words are in it too.
 use super::{show, words};
 use extra_info::{ExtraInfoItem, FirePioDefault};
 use header::SdrrInfoFields;
@@ -10,6 +10,32 @@ use std::io;
 use text::Text;
 use types::SdrrMcuPort;
 use version::FirmwareVersion;
+
+// How many words there are; the fields stand first.
+pub(crate) const WORDS: usize = 124;
+
+pub(crate) const FIELD_WORDS: usize = 27;
+
+// Where each item starts, and how many words it has.
+pub(crate) const BUILD_DATE: usize = 27;
+
+pub(crate) const HW_REV: usize = 31;
+
+pub(crate) const TEXT_WORDS: usize = 4;
+
+pub(crate) const EXTRA_INFO: usize = 35;
+
+pub(crate) const EXTRA_INFO_WORDS: usize = 7;
+
+pub(crate) const METADATA: usize = 42;
+
+pub(crate) const SETS: usize = 43;
+
+pub(crate) const SETS_WORDS: usize = 3;
+
+pub(crate) const PINS: usize = 46;
+
+pub(crate) const PINS_WORDS: usize = 78;
 
 // A word, where there is room; and the index behind it.
 fn push(words: &mut [u32], at: usize, n: u32) -> usize {
@@ -105,7 +131,8 @@ fn fields(words: &mut [u32], from: usize, f: SdrrInfoFields) -> usize {
 fn text(words: &mut [u32], from: usize, t: Text) -> usize {
     let a = byte(words, from, t.number);
     let b = push(words, a, t.offset);
-    push(words, b, t.length)
+    let c = push(words, b, t.length);
+    push(words, c, t.width)
 }
 
 fn extra_info(words: &mut [u32], from: usize, i: ExtraInfoItem) -> usize {
@@ -219,30 +246,30 @@ fn put(words: &mut [u32], r: SdrrInfo) {
     pins(words, g, p);
 }
 
-pub(crate) fn words_of(r: SdrrInfo) -> [u32; 122] {
-    let mut words = [0u32; 122];
+pub(crate) fn words_of(r: SdrrInfo) -> [u32; WORDS] {
+    let mut words = [0u32; WORDS];
     put(&mut words, r);
     words
 }
 
-pub(crate) fn at(report: &[u32; 122], i: usize) -> u32 {
+pub(crate) fn at(report: &[u32; WORDS], i: usize) -> u32 {
     words::at(report, i)
 }
 
-pub(crate) fn sum(report: &[u32; 122]) -> u32 {
+pub(crate) fn sum(report: &[u32; WORDS]) -> u32 {
     words::sum(report)
 }
 
-pub(crate) fn same(a: &[u32; 122], b: &[u32; 122], from: usize, n: usize) -> bool {
+pub(crate) fn same(a: &[u32; WORDS], b: &[u32; WORDS], from: usize, n: usize) -> bool {
     words::same(a, b, from, n)
 }
 
-fn show_part(rt: &impl Print, report: &[u32; 122], from: usize, n: usize) -> io::Result<()> {
+fn show_part(rt: &impl Print, report: &[u32; WORDS], from: usize, n: usize) -> io::Result<()> {
     show::words(rt, words::part(report, from, n))
 }
 
 // An item's words; of a refused one its number alone.
-fn show_item(rt: &impl Print, report: &[u32; 122], from: usize, n: usize) -> io::Result<()> {
+fn show_item(rt: &impl Print, report: &[u32; WORDS], from: usize, n: usize) -> io::Result<()> {
     if at(report, from) != 0 {
         show_part(rt, report, from, 1)
     } else {
@@ -251,10 +278,11 @@ fn show_item(rt: &impl Print, report: &[u32; 122], from: usize, n: usize) -> io:
 }
 
 // The sum of all words, and the words of the items that are not refused.
-pub(crate) fn show(rt: &impl Print, report: &[u32; 122]) -> io::Result<()> {
+pub(crate) fn show(rt: &impl Print, report: &[u32; WORDS]) -> io::Result<()> {
     show::next(rt, sum(report))?;
-    show_part(rt, report, 0, 33)?;
-    show_item(rt, report, 33, 7)?;
-    show_part(rt, report, 40, 4)?;
-    show_item(rt, report, 44, 78)
+    show_part(rt, report, 0, EXTRA_INFO)?;
+    show_item(rt, report, EXTRA_INFO, EXTRA_INFO_WORDS)?;
+    show_part(rt, report, METADATA, 1)?;
+    show_part(rt, report, SETS, SETS_WORDS)?;
+    show_item(rt, report, PINS, PINS_WORDS)
 }

@@ -45,7 +45,7 @@ headerOut f =
     }
 
 unfoldable pub stringOut : Text → OneromString
-stringOut t = record { number = t.number; offset = t.offset; length = t.length }
+stringOut t = record { number = t.number; offset = t.offset; length = t.length; width = t.width }
 
 -- 0 off, 1 on, 2 not given
 unfoldable pub pioNumber : FirePioDefault → ℕ

@@ -40,6 +40,7 @@ pub struct OneromString {
     pub number: u8,
     pub offset: u32,
     pub length: u32,
+    pub width: u32,
 }
 
 #[repr(C)]
@@ -164,6 +165,7 @@ fn string_out(t: Text) -> OneromString
         number: t.number,
         offset: t.offset,
         length: t.length,
+        width: t.width,
     }
 }
 

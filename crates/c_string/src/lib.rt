@@ -13,12 +13,13 @@ fn string_at(image: &[u8], base: u32, pointer: u32) -> text::Text
             number: 1,
             offset: 0,
             length: 0,
+            width: 0,
         };
     }
     strings::read_string_at_ptr(image, base, pointer)
 }
 
-pub fn string_call(image: &[u8], base: u32, pointer: u32, part: &mut [u32; 2]) -> u32
+pub fn string_call(image: &[u8], base: u32, pointer: u32, part: &mut [u32; text::PART_WORDS]) -> u32
     ensures reply { result ≡ (stringCall base pointer image.now).number }
     ensures part { part.new ≡ partAfter (stringCall base pointer image.now) part.old }
 {
@@ -26,6 +27,6 @@ pub fn string_call(image: &[u8], base: u32, pointer: u32, part: &mut [u32; 2]) -
     if t.number != 0 {
         return t.number as u32;
     }
-    *part = [t.offset, t.length];
+    *part = [t.offset, t.length, t.width];
     0
 }

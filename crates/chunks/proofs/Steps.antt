@@ -6,6 +6,7 @@ use native.Mathlib.Numerals.{add-one}
 use mathlib.Core.Path.{◌≡◌, refl, ap, sym, ◌∙◌}
 use mathlib.Core.Bool.{true, false}
 use mathlib.Core.List.{List}
+use Rattle.std.specs.Prelude.{Some, None}
 use lib.ListN.{length, get_or, take, drop, length-drop, drop_of_length-le}
 use lib.Seq.{drop-cons, length-take-le}
 use borrow.Author.Tests.{eq-eqb, ne_eqb}
@@ -14,6 +15,8 @@ use Rattle.window.specs.Window.{canRead}
 use Rattle.window.specs.Laws.{true-inside, part}
 use Rattle.prog.specs.Prog.{run}
 use Rattle.utf8.specs.Utf8.{isUtf8}
+use Rattle.utf8.specs.Points.{points, pointsOf}
+use Rattle.utf8.specs.Laws.Points.{points-length, some-points, none-points}
 use Rattle.text.specs.Text.{acceptedText, refusedText, hasNul, beforeNul, judged, textP}
 use Rattle.text.specs.Laws.Nul.{before-shorter, before-all}
 use Rattle.text.specs.Laws.Chunks.{restP, chunkAfter, text-start, chunks-none, chunks-ended, chunks-found, chunks-next}
@@ -37,16 +40,28 @@ module _ (x : List ℕ) (offset n : ℕ) (inside : offset + n ≤ length x) wher
   abbrev cut : List ℕ
   cut = take (offset + n - offset) (drop offset x)
 
-  pub judged-good : true ≡ isUtf8 cut → judged offset (take n (drop offset x)) ≡ acceptedText offset n
+  pub judged-good : true ≡ isUtf8 cut → judged offset (take n (drop offset x)) ≡ acceptedText offset n (points cut)
   unfolding judged
   judged-good h =
       let full : length (take n (drop offset x)) ≡ n = length-take-le n (drop offset x) (simp length-drop (omega arith)) in
       let u : isUtf8 (take n (drop offset x)) ≡ true = sym (h ∙ ap isUtf8 (part offset n x)) in
-      rw (u, full)
+      let w : points (take n (drop offset x)) ≡ points cut = sym (ap points (part offset n x)) in
+      rw (u, full, w)
 
-  pub judged-bad : false ≡ isUtf8 cut → judged offset (take n (drop offset x)) ≡ refusedText 21
+  pub judged-some : (w : ℕ) → Some w ≡ pointsOf cut → judged offset (take n (drop offset x)) ≡ acceptedText offset n w
+  judged-some w e = let u = some-points cut w e in rw u.1 (judged-good (sym u.0))
+
+  pub judged-none : None ≡ pointsOf cut → judged offset (take n (drop offset x)) ≡ refusedText 21
   unfolding judged
-  judged-bad h = let u : isUtf8 (take n (drop offset x)) ≡ false = sym (h ∙ ap isUtf8 (part offset n x)) in rw u
+  judged-none e = let u : isUtf8 (take n (drop offset x)) ≡ false = sym (ap isUtf8 (part offset n x)) ∙ none-points cut e in rw u
+
+  -- no more than its bytes
+  pub few-points : (w : ℕ) → Some w ≡ pointsOf cut → w ≤ n
+  few-points w e =
+      let full : length cut ≡ n = ap length (part offset n x) ∙ length-take-le n (drop offset x) (simp length-drop (omega arith)) in
+      let u = some-points cut w e in
+      let l = points-length cut u.0 in
+      omega (arith, u.1, l.0, full)
 
 -- what is known where n bytes are read: so many chunks are left, and they give the whole's answer
 pub record Rest (x : List ℕ) (base pointer n : ℕ) : Type 0 where

@@ -24,50 +24,61 @@ fn before_nul(s: &[u8]) -> usize
     i
 }
 
-// An empty part, and the refusal's number in the lent word.
-fn no_part<'a>(image: &'a [u8], refusal: u8, number: &mut u8) -> &'a [u8]
+// An empty part, and in the lent words the refusal's number and no width.
+fn no_part<'a>(image: &'a [u8], refusal: u8, number: &mut u8, width: &mut u32) -> &'a [u8]
     ensures part { result.now ≡ bytesOf image.now (refusedText refusal) }
     ensures number { number.new ≡ refusal }
+    ensures width { width.new ≡ 0 }
 {
     *number = refusal;
+    *width = 0;
     &image[..0]
 }
 
 // A string whose NUL was found, of n bytes from an offset on.
-fn judge<'a>(image: &'a [u8], offset: usize, n: usize, number: &mut u8) -> &'a [u8]
-    requires { offset + n ≤ length image.now }
+fn judge<'a>(image: &'a [u8], offset: usize, n: usize, number: &mut u8, width: &mut u32) -> &'a [u8]
+    requires { (offset + n ≤ length image.now) × (n ≤ 1024) }
     ensures part { result.now ≡ bytesOf image.now (judged offset (take n (drop offset image.now))) }
     ensures number { number.new ≡ (judged offset (take n (drop offset image.now))).number }
+    ensures width { width.new ≡ (judged offset (take n (drop offset image.now))).width }
 {
     let part = &image[offset..offset + n];
-    if utf8::is_utf8(part) {
-        *number = 0;
-        return part;
-    }
-    no_part(image, 21, number)
+    let Some(points) = utf8::code_points(part) else {
+        return no_part(image, 21, number, width);
+    };
+    *number = 0;
+    *width = points as u32;
+    part
 }
 
 // The string at a pointer, chunk by chunk: each must be wholly readable, and the first NUL ends it. Its part of the image, which is empty where
-// the string is refused, and its number in the lent word.
-pub fn read_string<'a>(image: &'a [u8], base: u32, ptr: u32, number: &mut u8) -> &'a [u8]
+// the string is refused, and in the lent words its number and its width in code points.
+pub fn read_string<'a>(
+    image: &'a [u8],
+    base: u32,
+    ptr: u32,
+    number: &mut u8,
+    width: &mut u32,
+) -> &'a [u8]
     ensures part { result.now ≡ bytesOf image.now (run (textP base ptr) image.now) }
     ensures number { number.new ≡ (run (textP base ptr) image.now).number }
+    ensures width { width.new ≡ (run (textP base ptr) image.now).width }
 {
     if ptr < base {
-        return no_part(image, 3, number);
+        return no_part(image, 3, number, width);
     }
     let offset = (ptr - base) as usize;
     let mut n: usize = 0;
     while n < LONGEST {
         if !window::can_read(image, base, ptr as u64 + n as u64, CHUNK) {
-            return no_part(image, 2, number);
+            return no_part(image, 2, number, width);
         }
         let at = offset + n;
         let found = before_nul(&image[at..at + CHUNK]);
         if found < CHUNK {
-            return judge(image, offset, n + found, number);
+            return judge(image, offset, n + found, number, width);
         }
         n += CHUNK;
     }
-    no_part(image, 20, number)
+    no_part(image, 20, number, width)
 }

@@ -4,3 +4,4 @@ pub mod CutReads
 pub mod Proof
 pub mod Promises
 pub mod Asks
+pub mod CutNames

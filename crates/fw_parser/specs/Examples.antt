@@ -6,6 +6,7 @@ use Rattle.window.specs.Window.{canRead, pastWindow}
 use Rattle.magic.specs.Magic.{startsWith}
 use Rattle.prog.specs.Prog.{run, trace, endOf, answer, reach, tried, triedShown, readsOf, andThen, triedReads}
 use Rattle.utf8.specs.Utf8.{classOf, lowAfter, highAfter, lacking, isUtf8}
+use Rattle.utf8.specs.Points.{pointsAfter, points}
 use Rattle.types.specs.declared.McuLine.{McuLine}
 use Rattle.types.specs.declared.McuStorage.{McuStorage}
 use Rattle.types.specs.declared.SdrrMcuPort.{SdrrMcuPort}
@@ -148,8 +149,8 @@ abbrev oldReport : PinsItem → SdrrInfo
 oldReport pins =
     record {
       fields = fieldsOn (version 0 4 2 7) McuLine.F405 McuStorage.StorageC 84 false true false true;
-      build_date = acceptedText 64 3;
-      hw_rev = acceptedText 68 4;
+      build_date = acceptedText 64 3 3;
+      hw_rev = acceptedText 68 4 4;
       extra_info = extraOn 7954765 45 FirePioDefault.NotGiven 0;
       metadata = MetadataItem.NotLookedFor;
       rom_sets = record { number = 0; rom_set_count = 1; served = 1 };
@@ -163,33 +164,33 @@ abbrev oldSetRow : List ℕ
 oldSetRow = 134217984 ∷ 16384 ∷ 0 ∷ 1 ∷ 1 ∷ 2 ∷ 0 ∷ 0 ∷ []
 
 abbrev oldRomRow : List ℕ
-oldRomRow = 2 ∷ 0 ∷ 2 ∷ 2 ∷ 0 ∷ 0 ∷ 1 ∷ []
+oldRomRow = 2 ∷ 0 ∷ 2 ∷ 2 ∷ 0 ∷ 0 ∷ 1 ∷ 0 ∷ []
 
-old-board : seen bases 8 7 oldImage ≡ shows (oldReport (record { number = 0; pins = oldPins })) oldSetRow oldRomRow
-unfolding pastWindow startsWith run trace endOf canRead answer tried triedShown readsOf andThen triedReads classOf lowAfter highAfter lacking isUtf8 lineOf isRp2350 storageOf portOf hasNul beforeNul judged chunksP textP before headerFields wholeOf headerOf headerP E.extraInfoFields noExtraInfo extraInfoOf extraInfoP metadataOf metadataP P.pinsFields noPins pinsOf pinsP romOf judgeRom romP romsP tableP pointedP setP setsP O.setsItemP walkP romsOf nameP namesP walkNamesP setRow countsOf setRowsAfter romFront nameWords romRow romRows lookP itemsP reportOf verdict openP opening oldImage
+old-board : seen bases 8 8 oldImage ≡ shows (oldReport (record { number = 0; pins = oldPins })) oldSetRow oldRomRow
+unfolding pastWindow startsWith run trace endOf canRead answer tried triedShown readsOf andThen triedReads classOf lowAfter highAfter lacking isUtf8 points pointsAfter lineOf isRp2350 storageOf portOf hasNul beforeNul judged chunksP textP before headerFields wholeOf headerOf headerP E.extraInfoFields noExtraInfo extraInfoOf extraInfoP metadataOf metadataP P.pinsFields noPins pinsOf pinsP romOf judgeRom romP romsP tableP pointedP setP setsP O.setsItemP walkP romsOf nameP namesP walkNamesP setRow countsOf setRowsAfter romFront nameWords romRow romRows lookP itemsP reportOf verdict openP opening oldImage
 old-board = refl
 
 -- every read: header, date, revision, extra info, set, ROM pointer, ROM info, pins
-old-reads : tried (openP bases 8 7) oldImage ≡ 8
-unfolding pastWindow startsWith run trace endOf canRead answer tried triedShown readsOf andThen triedReads classOf lowAfter highAfter lacking isUtf8 lineOf isRp2350 storageOf portOf hasNul beforeNul judged chunksP textP before headerFields wholeOf headerOf headerP E.extraInfoFields noExtraInfo extraInfoOf extraInfoP metadataOf metadataP P.pinsFields noPins pinsOf pinsP romOf judgeRom romP romsP tableP pointedP setP setsP O.setsItemP walkP romsOf nameP namesP walkNamesP setRow countsOf setRowsAfter romFront nameWords romRow romRows lookP itemsP reportOf verdict openP opening oldImage
+old-reads : tried (openP bases 8 8) oldImage ≡ 8
+unfolding pastWindow startsWith run trace endOf canRead answer tried triedShown readsOf andThen triedReads classOf lowAfter highAfter lacking isUtf8 points pointsAfter lineOf isRp2350 storageOf portOf hasNul beforeNul judged chunksP textP before headerFields wholeOf headerOf headerP E.extraInfoFields noExtraInfo extraInfoOf extraInfoP metadataOf metadataP P.pinsFields noPins pinsOf pinsP romOf judgeRom romP romsP tableP pointedP setP setsP O.setsItemP walkP romsOf nameP namesP walkNamesP setRow countsOf setRowsAfter romFront nameWords romRow romRows lookP itemsP reportOf verdict openP opening oldImage
 old-reads = refl
 
-old-reach : reach (openP bases 8 7) oldImage ≡ 488
-unfolding pastWindow startsWith run trace endOf canRead answer tried triedShown readsOf andThen triedReads classOf lowAfter highAfter lacking isUtf8 lineOf isRp2350 storageOf portOf hasNul beforeNul judged chunksP textP before headerFields wholeOf headerOf headerP E.extraInfoFields noExtraInfo extraInfoOf extraInfoP metadataOf metadataP P.pinsFields noPins pinsOf pinsP romOf judgeRom romP romsP tableP pointedP setP setsP O.setsItemP walkP romsOf nameP namesP walkNamesP setRow countsOf setRowsAfter romFront nameWords romRow romRows lookP itemsP reportOf verdict openP opening oldImage
+old-reach : reach (openP bases 8 8) oldImage ≡ 488
+unfolding pastWindow startsWith run trace endOf canRead answer tried triedShown readsOf andThen triedReads classOf lowAfter highAfter lacking isUtf8 points pointsAfter lineOf isRp2350 storageOf portOf hasNul beforeNul judged chunksP textP before headerFields wholeOf headerOf headerP E.extraInfoFields noExtraInfo extraInfoOf extraInfoP metadataOf metadataP P.pinsFields noPins pinsOf pinsP romOf judgeRom romP romsP tableP pointedP setP setsP O.setsItemP walkP romsOf nameP namesP walkNamesP setRow countsOf setRowsAfter romFront nameWords romRow romRows lookP itemsP reportOf verdict openP opening oldImage
 old-reach = refl
 
 -- one byte less, and the pins are ended
-old-cut : seen bases 8 7 (take 487 oldImage) ≡ shows (oldReport (P.refusedPins 2)) oldSetRow oldRomRow
-unfolding pastWindow startsWith run trace endOf canRead answer tried triedShown readsOf andThen triedReads classOf lowAfter highAfter lacking isUtf8 lineOf isRp2350 storageOf portOf hasNul beforeNul judged chunksP textP before headerFields wholeOf headerOf headerP E.extraInfoFields noExtraInfo extraInfoOf extraInfoP metadataOf metadataP P.pinsFields noPins pinsOf pinsP romOf judgeRom romP romsP tableP pointedP setP setsP O.setsItemP walkP romsOf nameP namesP walkNamesP setRow countsOf setRowsAfter romFront nameWords romRow romRows lookP itemsP reportOf verdict openP opening oldImage
+old-cut : seen bases 8 8 (take 487 oldImage) ≡ shows (oldReport (P.refusedPins 2)) oldSetRow oldRomRow
+unfolding pastWindow startsWith run trace endOf canRead answer tried triedShown readsOf andThen triedReads classOf lowAfter highAfter lacking isUtf8 points pointsAfter lineOf isRp2350 storageOf portOf hasNul beforeNul judged chunksP textP before headerFields wholeOf headerOf headerP E.extraInfoFields noExtraInfo extraInfoOf extraInfoP metadataOf metadataP P.pinsFields noPins pinsOf pinsP romOf judgeRom romP romsP tableP pointedP setP setsP O.setsItemP walkP romsOf nameP namesP walkNamesP setRow countsOf setRowsAfter romFront nameWords romRow romRows lookP itemsP reportOf verdict openP opening oldImage
 old-cut = refl
 
--- a row short: 45; no row at all: 44
-old-short : seen bases 8 6 oldImage ≡ closed 45
-unfolding pastWindow startsWith run trace endOf canRead answer tried triedShown readsOf andThen triedReads classOf lowAfter highAfter lacking isUtf8 lineOf isRp2350 storageOf portOf hasNul beforeNul judged chunksP textP before headerFields wholeOf headerOf headerP E.extraInfoFields noExtraInfo extraInfoOf extraInfoP metadataOf metadataP P.pinsFields noPins pinsOf pinsP romOf judgeRom romP romsP tableP pointedP setP setsP O.setsItemP walkP romsOf nameP namesP walkNamesP setRow countsOf setRowsAfter romFront nameWords romRow romRows lookP itemsP reportOf verdict openP opening oldImage
+-- a word short: 45; no row at all: 44
+old-short : seen bases 8 7 oldImage ≡ closed 45
+unfolding pastWindow startsWith run trace endOf canRead answer tried triedShown readsOf andThen triedReads classOf lowAfter highAfter lacking isUtf8 points pointsAfter lineOf isRp2350 storageOf portOf hasNul beforeNul judged chunksP textP before headerFields wholeOf headerOf headerP E.extraInfoFields noExtraInfo extraInfoOf extraInfoP metadataOf metadataP P.pinsFields noPins pinsOf pinsP romOf judgeRom romP romsP tableP pointedP setP setsP O.setsItemP walkP romsOf nameP namesP walkNamesP setRow countsOf setRowsAfter romFront nameWords romRow romRows lookP itemsP reportOf verdict openP opening oldImage
 old-short = refl
 
 old-none : seen bases 0 0 oldImage ≡ closed 44
-unfolding pastWindow startsWith run trace endOf canRead answer tried triedShown readsOf andThen triedReads classOf lowAfter highAfter lacking isUtf8 lineOf isRp2350 storageOf portOf hasNul beforeNul judged chunksP textP before headerFields wholeOf headerOf headerP E.extraInfoFields noExtraInfo extraInfoOf extraInfoP metadataOf metadataP P.pinsFields noPins pinsOf pinsP romOf judgeRom romP romsP tableP pointedP setP setsP O.setsItemP walkP romsOf nameP namesP walkNamesP setRow countsOf setRowsAfter romFront nameWords romRow romRows lookP itemsP reportOf verdict openP opening oldImage
+unfolding pastWindow startsWith run trace endOf canRead answer tried triedShown readsOf andThen triedReads classOf lowAfter highAfter lacking isUtf8 points pointsAfter lineOf isRp2350 storageOf portOf hasNul beforeNul judged chunksP textP before headerFields wholeOf headerOf headerP E.extraInfoFields noExtraInfo extraInfoOf extraInfoP metadataOf metadataP P.pinsFields noPins pinsOf pinsP romOf judgeRom romP romsP tableP pointedP setP setsP O.setsItemP walkP romsOf nameP namesP walkNamesP setRow countsOf setRowsAfter romFront nameWords romRow romRows lookP itemsP reportOf verdict openP opening oldImage
 old-none = refl
 
 -- ---- 0.6.1 on an Rp2350, two sets, three ROMs, of which two have the same name
@@ -228,8 +229,8 @@ abbrev newReport : PinsItem → SdrrInfo
 newReport pins =
     record {
       fields = fieldsOn (version 0 6 1 0) McuLine.Rp2350 McuStorage.Storage2MB 150 true false true false;
-      build_date = acceptedText 64 5;
-      hw_rev = acceptedText 70 7;
+      build_date = acceptedText 64 5 5;
+      hw_rev = acceptedText 70 7 7;
       extra_info = extraOn 536875008 12 (FirePioDefault.Given true) 536879104;
       metadata = MetadataItem.Looked 0;
       rom_sets = record { number = 0; rom_set_count = 2; served = 2 };
@@ -244,21 +245,21 @@ abbrev newSetRows : List ℕ
 newSetRows =
     268439552 ∷ 8192 ∷ 0 ∷ 1 ∷ 0 ∷ 2 ∷ 0 ∷ 268435520 ∷ 268447744 ∷ 65536 ∷ 1 ∷ 2 ∷ 2 ∷ 0 ∷ 0 ∷ 0 ∷ []
 
-abbrev newRomRows : (offset len reason : ℕ) → List ℕ → List ℕ
-newRomRows o l n rest = 2 ∷ 0 ∷ 2 ∷ 2 ∷ o ∷ l ∷ n ∷ 0 ∷ 0 ∷ 1 ∷ 2 ∷ 0 ∷ 0 ∷ 1 ∷ 2 ∷ 0 ∷ 2 ∷ 2 ∷ o ∷ l ∷ n ∷ rest
+abbrev newRomRows : (offset len reason wide : ℕ) → List ℕ → List ℕ
+newRomRows o l n w rest = 2 ∷ 0 ∷ 2 ∷ 2 ∷ o ∷ l ∷ n ∷ w ∷ 0 ∷ 0 ∷ 1 ∷ 2 ∷ 0 ∷ 0 ∷ 1 ∷ 0 ∷ 2 ∷ 0 ∷ 2 ∷ 2 ∷ o ∷ l ∷ n ∷ w ∷ rest
 
 -- a word more than is needed stays as it was
-new-board : seen bases 16 22 newImage ≡ shows (newReport (record { number = 0; pins = newPins })) newSetRows (newRomRows 748 7 0 (0 ∷ []))
-unfolding pastWindow startsWith run trace endOf canRead answer tried triedShown readsOf andThen triedReads classOf lowAfter highAfter lacking isUtf8 lineOf isRp2350 storageOf portOf hasNul beforeNul judged chunksP textP before headerFields wholeOf headerOf headerP E.extraInfoFields noExtraInfo extraInfoOf extraInfoP metadataOf metadataP P.pinsFields noPins pinsOf pinsP romOf judgeRom romP romsP tableP pointedP setP setsP O.setsItemP walkP romsOf nameP namesP walkNamesP setRow countsOf setRowsAfter romFront nameWords romRow romRows lookP itemsP reportOf verdict openP opening newImage
+new-board : seen bases 16 25 newImage ≡ shows (newReport (record { number = 0; pins = newPins })) newSetRows (newRomRows 748 7 0 7 (0 ∷ []))
+unfolding pastWindow startsWith run trace endOf canRead answer tried triedShown readsOf andThen triedReads classOf lowAfter highAfter lacking isUtf8 points pointsAfter lineOf isRp2350 storageOf portOf hasNul beforeNul judged chunksP textP before headerFields wholeOf headerOf headerP E.extraInfoFields noExtraInfo extraInfoOf extraInfoP metadataOf metadataP P.pinsFields noPins pinsOf pinsP romOf judgeRom romP romsP tableP pointedP setP setsP O.setsItemP walkP romsOf nameP namesP walkNamesP setRow countsOf setRowsAfter romFront nameWords romRow romRows lookP itemsP reportOf verdict openP opening newImage
 new-board = refl
 
-new-reads : tried (openP bases 16 21) newImage ≡ 17
-unfolding pastWindow startsWith run trace endOf canRead answer tried triedShown readsOf andThen triedReads classOf lowAfter highAfter lacking isUtf8 lineOf isRp2350 storageOf portOf hasNul beforeNul judged chunksP textP before headerFields wholeOf headerOf headerP E.extraInfoFields noExtraInfo extraInfoOf extraInfoP metadataOf metadataP P.pinsFields noPins pinsOf pinsP romOf judgeRom romP romsP tableP pointedP setP setsP O.setsItemP walkP romsOf nameP namesP walkNamesP setRow countsOf setRowsAfter romFront nameWords romRow romRows lookP itemsP reportOf verdict openP opening newImage
+new-reads : tried (openP bases 16 24) newImage ≡ 17
+unfolding pastWindow startsWith run trace endOf canRead answer tried triedShown readsOf andThen triedReads classOf lowAfter highAfter lacking isUtf8 points pointsAfter lineOf isRp2350 storageOf portOf hasNul beforeNul judged chunksP textP before headerFields wholeOf headerOf headerP E.extraInfoFields noExtraInfo extraInfoOf extraInfoP metadataOf metadataP P.pinsFields noPins pinsOf pinsP romOf judgeRom romP romsP tableP pointedP setP setsP O.setsItemP walkP romsOf nameP namesP walkNamesP setRow countsOf setRowsAfter romFront nameWords romRow romRows lookP itemsP reportOf verdict openP opening newImage
 new-reads = refl
 
 -- cut within the name's chunk: the names and the pins are ended, all else is shown
-new-cut : seen bases 16 21 (take 811 newImage) ≡ shows (newReport (P.refusedPins 2)) newSetRows (newRomRows 0 0 2 [])
-unfolding pastWindow startsWith run trace endOf canRead answer tried triedShown readsOf andThen triedReads classOf lowAfter highAfter lacking isUtf8 lineOf isRp2350 storageOf portOf hasNul beforeNul judged chunksP textP before headerFields wholeOf headerOf headerP E.extraInfoFields noExtraInfo extraInfoOf extraInfoP metadataOf metadataP P.pinsFields noPins pinsOf pinsP romOf judgeRom romP romsP tableP pointedP setP setsP O.setsItemP walkP romsOf nameP namesP walkNamesP setRow countsOf setRowsAfter romFront nameWords romRow romRows lookP itemsP reportOf verdict openP opening newImage
+new-cut : seen bases 16 24 (take 811 newImage) ≡ shows (newReport (P.refusedPins 2)) newSetRows (newRomRows 0 0 2 0 [])
+unfolding pastWindow startsWith run trace endOf canRead answer tried triedShown readsOf andThen triedReads classOf lowAfter highAfter lacking isUtf8 points pointsAfter lineOf isRp2350 storageOf portOf hasNul beforeNul judged chunksP textP before headerFields wholeOf headerOf headerP E.extraInfoFields noExtraInfo extraInfoOf extraInfoP metadataOf metadataP P.pinsFields noPins pinsOf pinsP romOf judgeRom romP romsP tableP pointedP setP setsP O.setsItemP walkP romsOf nameP namesP walkNamesP setRow countsOf setRowsAfter romFront nameWords romRow romRows lookP itemsP reportOf verdict openP opening newImage
 new-cut = refl
 
 -- ---- the same board with serve 3 in its second set: refused with 40, after the name of the first set's ROM was read
@@ -271,8 +272,8 @@ abbrev refusedReport : SdrrInfo
 refusedReport =
     record {
       fields = fieldsOn (version 0 6 1 0) McuLine.Rp2350 McuStorage.Storage2MB 150 true false true false;
-      build_date = acceptedText 64 5;
-      hw_rev = acceptedText 70 7;
+      build_date = acceptedText 64 5 5;
+      hw_rev = acceptedText 70 7 7;
       extra_info = extraOn 536875008 12 (FirePioDefault.Given true) 536879104;
       metadata = MetadataItem.Looked 0;
       rom_sets = record { number = 40; rom_set_count = 2; served = 0 };
@@ -281,19 +282,19 @@ refusedReport =
 
 -- the count is kept, and every lent word
 refused-board : seenOf (opening bases 3 2 refusedImage) (5 ∷ 6 ∷ 7 ∷ []) (8 ∷ 9 ∷ []) ≡ shows refusedReport (5 ∷ 6 ∷ 7 ∷ []) (8 ∷ 9 ∷ [])
-unfolding pastWindow startsWith run trace endOf canRead answer tried triedShown readsOf andThen triedReads classOf lowAfter highAfter lacking isUtf8 lineOf isRp2350 storageOf portOf hasNul beforeNul judged chunksP textP before headerFields wholeOf headerOf headerP E.extraInfoFields noExtraInfo extraInfoOf extraInfoP metadataOf metadataP P.pinsFields noPins pinsOf pinsP romOf judgeRom romP romsP tableP pointedP setP setsP O.setsItemP walkP romsOf nameP namesP walkNamesP setRow countsOf setRowsAfter romFront nameWords romRow romRows lookP itemsP reportOf verdict openP opening newImage
+unfolding pastWindow startsWith run trace endOf canRead answer tried triedShown readsOf andThen triedReads classOf lowAfter highAfter lacking isUtf8 points pointsAfter lineOf isRp2350 storageOf portOf hasNul beforeNul judged chunksP textP before headerFields wholeOf headerOf headerP E.extraInfoFields noExtraInfo extraInfoOf extraInfoP metadataOf metadataP P.pinsFields noPins pinsOf pinsP romOf judgeRom romP romsP tableP pointedP setP setsP O.setsItemP walkP romsOf nameP namesP walkNamesP setRow countsOf setRowsAfter romFront nameWords romRow romRows lookP itemsP reportOf verdict openP opening newImage
 refused-board = refl
 
 -- every read: header, date, revision, extra info, metadata, set 0, its overrides, ROM pointer, ROM info, set 1, the name, pins
 refused-reads : tried (openP bases 3 2) refusedImage ≡ 12
-unfolding pastWindow startsWith run trace endOf canRead answer tried triedShown readsOf andThen triedReads classOf lowAfter highAfter lacking isUtf8 lineOf isRp2350 storageOf portOf hasNul beforeNul judged chunksP textP before headerFields wholeOf headerOf headerP E.extraInfoFields noExtraInfo extraInfoOf extraInfoP metadataOf metadataP P.pinsFields noPins pinsOf pinsP romOf judgeRom romP romsP tableP pointedP setP setsP O.setsItemP walkP romsOf nameP namesP walkNamesP setRow countsOf setRowsAfter romFront nameWords romRow romRows lookP itemsP reportOf verdict openP opening newImage
+unfolding pastWindow startsWith run trace endOf canRead answer tried triedShown readsOf andThen triedReads classOf lowAfter highAfter lacking isUtf8 points pointsAfter lineOf isRp2350 storageOf portOf hasNul beforeNul judged chunksP textP before headerFields wholeOf headerOf headerP E.extraInfoFields noExtraInfo extraInfoOf extraInfoP metadataOf metadataP P.pinsFields noPins pinsOf pinsP romOf judgeRom romP romsP tableP pointedP setP setsP O.setsItemP walkP romsOf nameP namesP walkNamesP setRow countsOf setRowsAfter romFront nameWords romRow romRows lookP itemsP reportOf verdict openP opening newImage
 refused-reads = refl
 
 -- the name is not shown
 refused-shown : triedShown (openP bases 3 2) refusedImage ≡ 11
-unfolding pastWindow startsWith run trace endOf canRead answer tried triedShown readsOf andThen triedReads classOf lowAfter highAfter lacking isUtf8 lineOf isRp2350 storageOf portOf hasNul beforeNul judged chunksP textP before headerFields wholeOf headerOf headerP E.extraInfoFields noExtraInfo extraInfoOf extraInfoP metadataOf metadataP P.pinsFields noPins pinsOf pinsP romOf judgeRom romP romsP tableP pointedP setP setsP O.setsItemP walkP romsOf nameP namesP walkNamesP setRow countsOf setRowsAfter romFront nameWords romRow romRows lookP itemsP reportOf verdict openP opening newImage
+unfolding pastWindow startsWith run trace endOf canRead answer tried triedShown readsOf andThen triedReads classOf lowAfter highAfter lacking isUtf8 points pointsAfter lineOf isRp2350 storageOf portOf hasNul beforeNul judged chunksP textP before headerFields wholeOf headerOf headerP E.extraInfoFields noExtraInfo extraInfoOf extraInfoP metadataOf metadataP P.pinsFields noPins pinsOf pinsP romOf judgeRom romP romsP tableP pointedP setP setsP O.setsItemP walkP romsOf nameP namesP walkNamesP setRow countsOf setRowsAfter romFront nameWords romRow romRows lookP itemsP reportOf verdict openP opening newImage
 refused-shown = refl
 
 refused-reach : reach (openP bases 3 2) refusedImage ≡ 848
-unfolding pastWindow startsWith run trace endOf canRead answer tried triedShown readsOf andThen triedReads classOf lowAfter highAfter lacking isUtf8 lineOf isRp2350 storageOf portOf hasNul beforeNul judged chunksP textP before headerFields wholeOf headerOf headerP E.extraInfoFields noExtraInfo extraInfoOf extraInfoP metadataOf metadataP P.pinsFields noPins pinsOf pinsP romOf judgeRom romP romsP tableP pointedP setP setsP O.setsItemP walkP romsOf nameP namesP walkNamesP setRow countsOf setRowsAfter romFront nameWords romRow romRows lookP itemsP reportOf verdict openP opening newImage
+unfolding pastWindow startsWith run trace endOf canRead answer tried triedShown readsOf andThen triedReads classOf lowAfter highAfter lacking isUtf8 points pointsAfter lineOf isRp2350 storageOf portOf hasNul beforeNul judged chunksP textP before headerFields wholeOf headerOf headerP E.extraInfoFields noExtraInfo extraInfoOf extraInfoP metadataOf metadataP P.pinsFields noPins pinsOf pinsP romOf judgeRom romP romsP tableP pointedP setP setsP O.setsItemP walkP romsOf nameP namesP walkNamesP setRow countsOf setRowsAfter romFront nameWords romRow romRows lookP itemsP reportOf verdict openP opening newImage
 refused-reach = refl

@@ -3,3 +3,4 @@ pub mod Fits
 pub mod Sanity
 pub mod Items
 pub mod Promises
+pub mod Strings

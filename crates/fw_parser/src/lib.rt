@@ -29,6 +29,7 @@ fn no_text() -> Text
         number: 0,
         offset: 0,
         length: 0,
+        width: 0,
     }
 }
 

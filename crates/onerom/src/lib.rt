@@ -20,7 +20,12 @@ pub extern "C" fn onerom_runtime(record: &[u8], ram_base: u32, words: &mut [u32;
 }
 
 #[unsafe(no_mangle)]
-pub extern "C" fn onerom_string(image: &[u8], base: u32, pointer: u32, part: &mut [u32; 2]) -> u32
+pub extern "C" fn onerom_string(
+    image: &[u8],
+    base: u32,
+    pointer: u32,
+    part: &mut [u32; text::PART_WORDS],
+) -> u32
     ensures reply { result ≡ (stringCall base pointer image.now).number }
     ensures part { part.new ≡ partAfter (stringCall base pointer image.now) part.old }
 {

@@ -9,7 +9,7 @@ use lib.ListN.{length}
 use lib.Seq.{sets, sets-eq}
 use borrow.Author.Tests.{lt-ltb, le-ltb}
 use Rattle.prog.specs.Prog.{run}
-use Rattle.rows.specs.LentRows.{setWidth, romWidth}
+use Rattle.rows.specs.LentRows.{setRowLength, romRowLength}
 use Rattle.text.specs.declared.Text.{Text}
 use Rattle.header.specs.declared.SdrrInfoFields.{SdrrInfoFields}
 use Rattle.version.specs.Version.{from060}
@@ -42,24 +42,24 @@ module _ {names : List Text} (ls lr : List ℕ) where
   refused (found ss) r e h = absurd (h (ap (λ (w : Walked). w.number) e))
 
   module _ (ss : List RomSet) where
-    short-sets : length ls < setWidth * length ss → Leaves (found ss) names ls lr (refusedWalk 44) ls lr
+    short-sets : length ls < setRowLength * length ss → Leaves (found ss) names ls lr (refusedWalk 44) ls lr
     unfolding walkReply walkSetRows walkRomRows
-    short-sets h = let e = lt-ltb (length ls) (setWidth * length ss) h in record { reply = rw e; set-rows = rw e; rom-rows = rw e }
+    short-sets h = let e = lt-ltb (length ls) (setRowLength * length ss) h in record { reply = rw e; set-rows = rw e; rom-rows = rw e }
 
-    module _ (h : setWidth * length ss ≤ length ls) where
-      short-roms : length lr < romWidth * length (romsOf ss) → Leaves (found ss) names ls lr (refusedWalk 45) ls lr
+    module _ (h : setRowLength * length ss ≤ length ls) where
+      short-roms : length lr < romRowLength * length (romsOf ss) → Leaves (found ss) names ls lr (refusedWalk 45) ls lr
       unfolding walkReply walkSetRows walkRomRows
       short-roms i =
-          let e = le-ltb (length ls) (setWidth * length ss) h in
-          let f = lt-ltb (length lr) (romWidth * length (romsOf ss)) i in
+          let e = le-ltb (length ls) (setRowLength * length ss) h in
+          let f = lt-ltb (length lr) (romRowLength * length (romsOf ss)) i in
           record { reply = rw (e, f); set-rows = rw (e, f); rom-rows = rw (e, f) }
 
-      written : romWidth * length (romsOf ss) ≤ length lr
+      written : romRowLength * length (romsOf ss) ≤ length lr
           → Leaves (found ss) names ls lr (record { number = 0; rom_count = length (romsOf ss) }) (overwritten (setRows ss) ls) (overwritten (romRows (romsOf ss) names) lr)
       unfolding walkReply walkSetRows walkRomRows
       written i =
-          let e = le-ltb (length ls) (setWidth * length ss) h in
-          let f = le-ltb (length lr) (romWidth * length (romsOf ss)) i in
+          let e = le-ltb (length ls) (setRowLength * length ss) h in
+          let f = le-ltb (length lr) (romRowLength * length (romsOf ss)) i in
           record { reply = rw (e, f); set-rows = rw (e, f); rom-rows = rw (e, f) }
 
 -- ---- as the code goes through it
@@ -94,15 +94,15 @@ module _ (x : List ℕ) (base : ℕ) (f : SdrrInfoFields) (count pointer : ℕ) 
     many : length ss ≡ count
     many = sets-length x base (hasFilenames f) (from060 f.version) pointer count
 
-    pub left-44 : length ls < setWidth * count → Leaving walk (refusedWalk 44) ls lr
+    pub left-44 : length ls < setRowLength * count → Leaving walk (refusedWalk 44) ls lr
     left-44 h = as-found _ _ _ (short-sets ls lr ss (rw many h))
 
-    module _ (h : setWidth * count ≤ length ls) where
-      pub left-45 : length lr < romWidth * r.rom_count → Leaving walk (refusedWalk 45) ls lr
+    module _ (h : setRowLength * count ≤ length ls) where
+      pub left-45 : length lr < romRowLength * r.rom_count → Leaving walk (refusedWalk 45) ls lr
       left-45 i = as-found _ _ _ (short-roms ls lr ss (rw many h) (rw counted at i))
 
-      module _ (i : romWidth * r.rom_count ≤ length lr) (filenames long : Bool) (a : filenames ≡ hasFilenames f) (b : long ≡ from060 f.version) where
-        pub enough : romWidth * length (romsOf (setsAt x base filenames long pointer count)) ≤ length lr
+      module _ (i : romRowLength * r.rom_count ≤ length lr) (filenames long : Bool) (a : filenames ≡ hasFilenames f) (b : long ≡ from060 f.version) where
+        pub enough : romRowLength * length (romsOf (setsAt x base filenames long pointer count)) ≤ length lr
         enough = rw (a, b) (rw counted at i)
 
         pub left-written : (s t : List ℕ) → s ≡ sets ls 0 (setRows (setsAt x base filenames long pointer count))

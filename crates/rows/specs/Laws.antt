@@ -1,13 +1,28 @@
--- Rows of one width, one after the other.
+-- Rows of one length, one after the other; and a name's width, altered, which is no row's type.
 -- Assumes nothing.
-use Rattle.std.specs.Prelude.{ℕ, suc, ◌+◌, ◌*◌, ◌≡◌, List, ◌++◌, length, get_or}
-use Rattle.std.proofs.Common.{arith, mul-suc, ap, ◌∙◌, length-append, get_or-append-add}
+use Rattle.std.specs.Prelude.{ℕ, suc, ◌+◌, ◌*◌, ◌≡◌, List, ◌++◌, length, get_or, set}
+use Rattle.std.proofs.Common.{arith, mul-suc, ap, ◌∙◌, length-append, get_or-append-add, length-set, get_or-set_other}
+use Rattle.rows.specs.LentRows.{romRowLength, romPlace, typeWord}
+use Rattle.rows.specs.declared.RomWord.{RomWord}
 
-module _ (row rest : List ℕ) (width : ℕ) (wide : length row ≡ width) where
-  pub one-row-more : (n : ℕ) → length rest ≡ width * n → length (row ++ rest) ≡ width * suc n
-  one-row-more n e = length-append row rest ∙ (let c = mul-suc width n in omega arith)
+module _ (row rest : List ℕ) (words : ℕ) (full : length row ≡ words) where
+  pub one-row-more : (n : ℕ) → length rest ≡ words * n → length (row ++ rest) ≡ words * suc n
+  one-row-more n e = length-append row rest ∙ (let c = mul-suc words n in omega arith)
 
-  pub in-later-row : (i place : ℕ) → get_or (row ++ rest) (width * suc i + place) 0 ≡ get_or rest (width * i + place) 0
+  pub in-later-row : (i place : ℕ) → get_or (row ++ rest) (words * suc i + place) 0 ≡ get_or rest (words * i + place) 0
   in-later-row i place =
-      let e : width * suc i + place ≡ length row + (width * i + place) = let c = mul-suc width i in omega arith in
-      ap (λ (n : ℕ). get_or (row ++ rest) n 0) e ∙ get_or-append-add row rest (width * i + place) 0
+      let e : words * suc i + place ≡ length row + (words * i + place) = let c = mul-suc words i in omega arith in
+      ap (λ (n : ℕ). get_or (row ++ rest) n 0) e ∙ get_or-append-add row rest (words * i + place) 0
+
+-- ---- an altered width: as many words, and every type as it was
+
+module _ (roms : List ℕ) (row word : ℕ) where
+  abbrev pub widthAltered : List ℕ
+  widthAltered = set roms (romRowLength * row + romPlace RomWord.NameWidth) word
+
+  pub altered-length : length widthAltered ≡ length roms
+  altered-length = length-set roms (romRowLength * row + romPlace RomWord.NameWidth) word
+
+  pub altered-types : (i : ℕ) → typeWord widthAltered i ≡ typeWord roms i
+  altered-types i =
+      get_or-set_other roms (romRowLength * row + romPlace RomWord.NameWidth) (romRowLength * i + romPlace RomWord.Type) word 0 (λ e. omega arith)

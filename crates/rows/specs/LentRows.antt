@@ -4,12 +4,12 @@ use Rattle.base.specs.Choice.{pick}
 use Rattle.rows.specs.declared.SetWord.{SetWord}
 use Rattle.rows.specs.declared.RomWord.{RomWord}
 
--- a set row is eight words, a ROM row seven
-abbrev pub setWidth : ℕ
-setWidth = 8
+-- a set row is eight words; so is a ROM row, from wish 3 of document 02 on
+abbrev pub setRowLength : ℕ
+setRowLength = 8
 
-abbrev pub romWidth : ℕ
-romWidth = 7
+abbrev pub romRowLength : ℕ
+romRowLength = 8
 
 -- where each word stands in its row
 abbrev pub setPlace : SetWord → ℕ
@@ -30,13 +30,14 @@ romPlace RomWord.Cs3 = 3
 romPlace RomWord.NameOffset = 4
 romPlace RomWord.NameLength = 5
 romPlace RomWord.NameReason = 6
+romPlace RomWord.NameWidth = 7
 
 -- a word of a row; past the end 0
 abbrev pub setWord : List ℕ → ℕ → SetWord → ℕ
-setWord sets i word = get_or sets (setWidth * i + setPlace word) 0
+setWord sets i word = get_or sets (setRowLength * i + setPlace word) 0
 
 abbrev pub romWord : List ℕ → ℕ → RomWord → ℕ
-romWord roms row word = get_or roms (romWidth * row + romPlace word) 0
+romWord roms row word = get_or roms (romRowLength * row + romPlace word) 0
 
 -- ---- the words of a set row, by name
 
@@ -87,14 +88,17 @@ nameLength roms row = romWord roms row RomWord.NameLength
 abbrev pub nameReason : List ℕ → ℕ → ℕ
 nameReason roms row = romWord roms row RomWord.NameReason
 
+abbrev pub nameWidth : List ℕ → ℕ → ℕ
+nameWidth roms row = romWord roms row RomWord.NameWidth
+
 -- ---- which rows a call may use
 
 -- the whole row is among those lent
 abbrev pub hasSetRow : List ℕ → ℕ → Bool
-hasSetRow sets i = leb (setWidth * i + setWidth) (length sets)
+hasSetRow sets i = leb (setRowLength * i + setRowLength) (length sets)
 
 abbrev pub hasRomRow : List ℕ → ℕ → Bool
-hasRomRow roms row = leb (romWidth * row + romWidth) (length roms)
+hasRomRow roms row = leb (romRowLength * row + romRowLength) (length roms)
 
 -- a needed ROM row isn't among those lent, or its type is above 33
 abbrev pub badRomRow : List ℕ → ℕ → Bool

@@ -8,7 +8,7 @@ ghost use Rattle.rows.specs.LentRows.{hasSetRow, setPlace, romPlace, setWord, ro
 pub const SET_WORDS: usize = 8;
 
 // How many words a ROM row has.
-pub const ROM_WORDS: usize = 7;
+pub const ROM_WORDS: usize = 8;
 
 // The words of a set row, in their order.
 #[derive(Clone, Copy)]
@@ -33,6 +33,7 @@ pub enum RomWord {
     NameOffset,
     NameLength,
     NameReason,
+    NameWidth,
 }
 
 // The place in its row.
@@ -62,6 +63,7 @@ fn rom_place(word: RomWord) -> u8
         RomWord::NameOffset => 4,
         RomWord::NameLength => 5,
         RomWord::NameReason => 6,
+        RomWord::NameWidth => 7,
     }
 }
 

@@ -1,7 +1,7 @@
 -- Document 01, "Same set".
 use Rattle.std.specs.Prelude.{ℕ, zero, suc, pred, ◌+◌, ◌*◌, Bool, true, false, not, ◌&&◌, ◌||◌, List, [], ◌∷◌, ltb, leb, eqb, length, drop}
 use Rattle.base.specs.Choice.{pick}
-use Rattle.rows.specs.LentRows.{romWidth, hasSetRow, firstRom, romCount, sizeOf, serveOf}
+use Rattle.rows.specs.LentRows.{romRowLength, hasSetRow, firstRom, romCount, sizeOf, serveOf}
 use Rattle.set_data.specs.declared.Valued.{Valued}
 use Rattle.set_data.specs.Data.{unvalued}
 
@@ -9,11 +9,11 @@ use Rattle.set_data.specs.Data.{unvalued}
 unfoldable pub typesIn : List ℕ → ℕ → List ℕ
 typesIn words zero = []
 typesIn [] (suc n) = []
-typesIn (t ∷ words) (suc n) = t ∷ typesIn (drop (pred romWidth) words) n
+typesIn (t ∷ words) (suc n) = t ∷ typesIn (drop (pred romRowLength) words) n
 
 -- the types of a set's ROM rows, in order
 abbrev pub types : (sets roms : List ℕ) → ℕ → List ℕ
-types sets roms i = typesIn (drop (romWidth * firstRom sets i) roms) (romCount sets i)
+types sets roms i = typesIn (drop (romRowLength * firstRom sets i) roms) (romCount sets i)
 
 unfoldable pub anyAbove33 : List ℕ → Bool
 anyAbove33 [] = false
@@ -24,7 +24,7 @@ unfoldable pub badSet : (sets roms : List ℕ) → ℕ → Bool
 badSet sets roms i =
     not (hasSetRow sets i)
     || (ltb 0 (romCount sets i)
-    && (ltb (length roms) (romWidth * (firstRom sets i + romCount sets i)) || anyAbove33 (types sets roms i)))
+    && (ltb (length roms) (romRowLength * (firstRom sets i + romCount sets i)) || anyAbove33 (types sets roms i)))
 
 -- what two sets are compared by: size, ROM count, serve, every type in order
 unfoldable pub compared : (sets roms : List ℕ) → ℕ → List ℕ

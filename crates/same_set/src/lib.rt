@@ -2,7 +2,7 @@
 #![tactic(auto)]
 
 ghost use Rattle.std.specs.Prelude.{◌≡◌, false, ◌*◌, ◌≤◌, length, drop};
-ghost use Rattle.rows.specs.LentRows.{romWidth};
+ghost use Rattle.rows.specs.LentRows.{romRowLength};
 ghost use Rattle.set_data.specs.Data.{unvalued};
 ghost use Rattle.same_set.specs.Same.{typesIn, anyAbove33, badSet, compared, equal, sameSet};
 
@@ -11,7 +11,7 @@ use set_data::Valued;
 
 // The words from a ROM row on; none where it lies past their end.
 fn from_row(rom_rows: &[u32], row: u32) -> &[u32]
-    ensures { result.now ≡ drop (romWidth * row) rom_rows.now }
+    ensures { result.now ≡ drop (romRowLength * row) rom_rows.now }
 {
     let at = rows::ROM_WORDS * (row as usize);
     if rom_rows.len() < at {
@@ -22,7 +22,7 @@ fn from_row(rom_rows: &[u32], row: u32) -> &[u32]
 
 // Whether one of the first ROM rows, so many of them, has a type above 33.
 fn any_above_33(words: &[u32], count: u32) -> bool
-    requires { romWidth * count ≤ length words.now }
+    requires { romRowLength * count ≤ length words.now }
     ensures { result ≡ anyAbove33 (typesIn words.now count) }
 {
     let mut at: usize = 0;
@@ -39,7 +39,7 @@ fn any_above_33(words: &[u32], count: u32) -> bool
 
 // Whether the types of the first ROM rows, so many of them, agree.
 fn same_types(a: &[u32], b: &[u32], count: u32) -> bool
-    requires { (romWidth * count ≤ length a.now) × (romWidth * count ≤ length b.now) }
+    requires { (romRowLength * count ≤ length a.now) × (romRowLength * count ≤ length b.now) }
     ensures { result ≡ equal (typesIn a.now count) (typesIn b.now count) }
 {
     let mut i: usize = 0;

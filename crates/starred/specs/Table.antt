@@ -6,6 +6,7 @@ use Rattle.runtime_info.specs.Runtime.{headOf, runtimeHeader, reaches, group060O
 use Rattle.runtime_info.specs.Words.{headWords, words060, words062, words063, words067, runtimeWords, numberOf, wordsAfter}
 use Rattle.prog.specs.Prog.{run, answer as readAnswer}
 use Rattle.utf8.specs.Utf8.{classOf, lowAfter, highAfter, lacking, isUtf8}
+use Rattle.utf8.specs.Points.{pointsAfter, points}
 use Rattle.text.specs.Text.{hasNul, beforeNul, judged, chunksP, textP, stringCall, partAfter}
 use Rattle.types.specs.Types.{isHigh, romTypeOf}
 use Rattle.type_numbers.specs.TypeNumbers.{romTypeNumber}
@@ -34,9 +35,9 @@ pub data Case : Type 0 where
 abbrev pub ofRecord : List ℕ → List ℕ
 ofRecord s = numberOf (runtimeOf s ramBase) ∷ wordsAfter (runtimeOf s ramBase) (replicate 25 9)
 
--- a string at the image's base: its offset and length
+-- a string at the image's base: its offset, length and width
 abbrev pub ofString : List ℕ → List ℕ
-ofString x = (stringCall flashBase flashBase x).number ∷ partAfter (stringCall flashBase flashBase x) (replicate 2 9)
+ofString x = (stringCall flashBase flashBase x).number ∷ partAfter (stringCall flashBase flashBase x) (replicate 3 9)
 
 -- the byte 1, by these data pins
 abbrev pub ofByte : List ℕ → List ℕ
@@ -45,7 +46,7 @@ ofByte pins = (demangleCall 0 pins 1).number ∷ valueAfter (demangleCall 0 pins
 -- a 2364 alone on its board of 24 pins, by its address pins and CS1, whose level is high; the control pins that it does not use are 255
 abbrev mangled : List ℕ → (cs1 address : ℕ) → Mangled
 mangled pins cs1 address =
-    mangleCall 0 24 pins (cs1 ∷ replicate 6 255) 1 (0 ∷ 0 ∷ 0 ∷ 1 ∷ replicate 4 0) (2 ∷ replicate 6 0) address (1 ∷ replicate 4 0)
+    mangleCall 0 24 pins (cs1 ∷ replicate 6 255) 1 (0 ∷ 0 ∷ 0 ∷ 1 ∷ replicate 4 0) (2 ∷ replicate 7 0) address (1 ∷ replicate 4 0)
 
 abbrev pub ofAddress : List ℕ → (cs1 address : ℕ) → List ℕ
 ofAddress pins cs1 address = (mangled pins cs1 address).number ∷ valueAfter (mangled pins cs1 address).number (mangled pins cs1 address).value 9 ∷ []
@@ -77,11 +78,11 @@ expected R3 = 61 ∷ replicate 25 9
 expected R4 =
     0 ∷ 1 ∷ 2 ∷ 1 ∷ 5 ∷ 536870920 ∷ 536870912 ∷ 65536 ∷ 0 ∷ 0 ∷ 0 ∷ 0 ∷ 0 ∷ 0 ∷ 0 ∷ 0 ∷ 0 ∷ 0 ∷ 0 ∷ 0 ∷ 0 ∷ 0 ∷ 0 ∷ 0 ∷ 0 ∷ 0 ∷ []
 -- length 1
-expected T1 = 0 ∷ 0 ∷ 1 ∷ []
+expected T1 = 0 ∷ 0 ∷ 1 ∷ 1 ∷ []
 -- 2
-expected T2 = 2 ∷ 9 ∷ 9 ∷ []
+expected T2 = 2 ∷ 9 ∷ 9 ∷ 9 ∷ []
 -- 21
-expected T3 = 21 ∷ 9 ∷ 9 ∷ []
+expected T3 = 21 ∷ 9 ∷ 9 ∷ 9 ∷ []
 -- byte 1: 128
 expected D1 = 0 ∷ 128 ∷ []
 -- 79
@@ -94,7 +95,7 @@ expected M2 = 0 ∷ 8197 ∷ []
 expected M3 = 77 ∷ 9 ∷ []
 
 pub starred : (c : Case) → answer c ≡ expected c
-unfolding startsWith headOf runtimeHeader reaches group060Of group062Of group063Of group067Of headWords words060 words062 words063 words067 runtimeWords stringCall pastWindow textP chunksP judged hasNul beforeNul isUtf8 lacking classOf lowAfter highAfter run readAnswer canRead mangleCall demangleCall pinsFrom mangleAddress demangleByte demangle allBelow mangledBy governingSet0 governing mangleCore mangleOf mangleBy mangleNumber inputWord raised drives rulesOf gather takenBit bitAt isHigh romTypeNumber romTypeOf pinMap mapOf mapBy mapNumber wholeMap withX withAddress controlOff withControl withControls baseZero loweredBy leastPin leastOf lowered
+unfolding startsWith headOf runtimeHeader reaches group060Of group062Of group063Of group067Of headWords words060 words062 words063 words067 runtimeWords stringCall pastWindow textP chunksP judged hasNul beforeNul points pointsAfter isUtf8 lacking classOf lowAfter highAfter run readAnswer canRead mangleCall demangleCall pinsFrom mangleAddress demangleByte demangle allBelow mangledBy governingSet0 governing mangleCore mangleOf mangleBy mangleNumber inputWord raised drives rulesOf gather takenBit bitAt isHigh romTypeNumber romTypeOf pinMap mapOf mapBy mapNumber wholeMap withX withAddress controlOff withControl withControls baseZero loweredBy leastPin leastOf lowered
 starred R1 = refl
 starred R2 = refl
 starred R3 = refl

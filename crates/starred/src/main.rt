@@ -17,7 +17,7 @@ struct RuntimeAnswer {
 #[derive(Clone, Copy)]
 struct StringAnswer {
     number: u32,
-    part: [u32; 2],
+    part: [u32; text::PART_WORDS],
 }
 
 #[derive(Clone, Copy)]
@@ -75,7 +75,7 @@ fn case_r4() -> RuntimeAnswer
 fn string_answer(image: &[u8]) -> StringAnswer
     ensures { (result.number ∷ result.part) ≡ ofString image.now }
 {
-    let mut part = [9u32; 2];
+    let mut part = [9u32; text::PART_WORDS];
     let number = c_string::string_call(image, 134217728, 134217728, &mut part);
     StringAnswer { number, part }
 }
@@ -133,7 +133,7 @@ fn address_answer(addr: &[u8; 16], cs1: u8, address: u32) -> AddressAnswer
 {
     let control = [cs1, 255, 255, 255, 255, 255, 255];
     let set_row = [0u32, 0, 0, 1, 0, 0, 0, 0];
-    let rom_row = [2u32, 0, 0, 0, 0, 0, 0];
+    let rom_row = [2u32, 0, 0, 0, 0, 0, 0, 0];
     let levels = [1u8, 0, 0, 0, 0];
     let mut value = 9u32;
     let number = c_mangle::mangle_call(

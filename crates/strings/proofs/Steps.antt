@@ -4,7 +4,7 @@ use Prim.Native.Nat.{ℕ, suc, ◌+◌, ◌-◌, ◌≤◌, ◌<◌}
 use native.Mathlib.Omega.{arith}
 use native.Mathlib.Nat.{add-zero}
 use native.Mathlib.Numerals.{add-one}
-use mathlib.Core.Path.{◌≡◌, ap, sym, ◌∙◌}
+use mathlib.Core.Path.{◌≡◌, refl, ap, sym, ◌∙◌}
 use mathlib.Core.Bool.{true, false, ◌||◌}
 use mathlib.Core.List.{List}
 use lib.Dec.{ltb, eqb}
@@ -14,24 +14,26 @@ use Rattle.window.specs.Window.{canRead}
 use Rattle.window.specs.Laws.{true-inside, part, part-at}
 use Rattle.prog.specs.Prog.{run}
 use Rattle.utf8.specs.Utf8.{isUtf8}
+use Rattle.utf8.specs.Points.{points}
 use Rattle.text.specs.Text.{acceptedText, bytesOf, beforeNul, judged, textP}
 use Rattle.text.specs.Laws.Nul.{before-front}
 use Rattle.text.specs.Laws.Chunks.{text-accepted}
 use Rattle.text.specs.declared.Text.{Text as Str}
 use Rattle.chunks.proofs.Steps.{judged-good, rest-start, rest-judged}
 use Rattle.strings.specs.Code.{asciiFront}
-use Rattle.strings.specs.Laws.Ascii.{ascii-utf8, ascii-before}
+use Rattle.strings.specs.Laws.Ascii.{ascii-utf8, ascii-points, ascii-before}
 
--- the part handed back for an accepted string makes it whole
+-- the part handed back for an accepted string makes it whole, with its width
 pub made-whole : (x : List ℕ) (base pointer : ℕ) (bytes : List ℕ) → bytes ≡ bytesOf x (run (textP base pointer) x) → (run (textP base pointer) x).number ≡ 0
-    → record { number = 0; offset = pointer - base; length = length bytes } ≡ run (textP base pointer) x
-made-whole x base pointer bytes e h =
+    → (w : ℕ) → w ≡ (run (textP base pointer) x).width → acceptedText (pointer - base) (length bytes) w ≡ run (textP base pointer) x
+made-whole x base pointer bytes e h w f =
     let t = run (textP base pointer) x in
     let a = text-accepted x base pointer h in
     let l : length bytes ≡ t.length = ap length e ∙ length-take-le t.length (drop t.offset x) (simp length-drop (let i = a.inside in omega arith)) in
-    ap (λ (n : ℕ). record { number = n; offset = pointer - base; length = length bytes }) (sym h)
-    ∙ ap (λ (o : ℕ). record { number = t.number; offset = o; length = length bytes }) (sym a.starts)
-    ∙ ap (λ (n : ℕ). record { number = t.number; offset = t.offset; length = n }) l
+    ap (λ (n : ℕ). record { number = n; offset = pointer - base; length = length bytes; width = w }) (sym h)
+    ∙ ap (λ (o : ℕ). record { number = t.number; offset = o; length = length bytes; width = w }) (sym a.starts)
+    ∙ ap (λ (n : ℕ). record { number = t.number; offset = t.offset; length = n; width = w }) l
+    ∙ ap (λ (n : ℕ). record { number = t.number; offset = t.offset; length = t.length; width = n }) f
 
 -- it is short, and its pointer is not below base
 pub part-short : (x : List ℕ) (base pointer : ℕ) (bytes : List ℕ) → bytes ≡ bytesOf x (run (textP base pointer) x) → (run (textP base pointer) x).number ≡ 0
@@ -39,7 +41,7 @@ pub part-short : (x : List ℕ) (base pointer : ℕ) (bytes : List ℕ) → byte
 part-short x base pointer bytes e h =
     let a = text-accepted x base pointer h in
     let s = a.short in
-    let l = ap (λ (t : Str). t.length) (made-whole x base pointer bytes e h) in
+    let l = ap (λ (t : Str). t.length) (made-whole x base pointer bytes e h _ refl) in
     (a.from, omega arith)
 
 -- the search for the end of the ASCII front: where it ends, where it finds a byte that is none, and where it goes on
@@ -65,7 +67,7 @@ module _ (x : List ℕ) (base pointer : ℕ) (from : base ≤ pointer) (e : canR
   front : n ≡ length (asciiFront (take 64 (drop (pointer - base) x)))
   front = count ∙ ap (λ (s : List ℕ). length (asciiFront s)) (part (pointer - base) 64 x)
 
-  pub short-told : get_or x (pointer - base + n) 0 ≡ 0 → acceptedText (pointer - base) n ≡ run (textP base pointer) x
+  pub short-told : get_or x (pointer - base + n) 0 ≡ 0 → acceptedText (pointer - base) n n ≡ run (textP base pointer) x
   short-told z =
       let o = pointer - base in
       let chunk = take 64 (drop o x) in
@@ -76,6 +78,8 @@ module _ (x : List ℕ) (base pointer : ℕ) (from : base ≤ pointer) (e : canR
       let held : take n (drop o x) ≡ asciiFront chunk =
       sym (take-take n 64 (drop o x) (omega arith)) ∙ rw found (sym (before-front chunk)) ∙ same in
       let good : true ≡ isUtf8 (take (o + n - o) (drop o x)) = sym (ap isUtf8 (part o n x ∙ held) ∙ ascii-utf8 chunk) in
-      sym (judged-good x o n (let i = chunk-fits in omega arith) good)
+      let wide : n ≡ points (take (o + n - o) (drop o x)) = front ∙ sym (ap points (part o n x ∙ held) ∙ ascii-points chunk) in
+      ap (acceptedText o n) wide
+      ∙ sym (judged-good x o n (let i = chunk-fits in omega arith) good)
       ∙ ap (λ (k : ℕ). judged o (take k (drop o x))) (let q : n ≡ 0 + n = omega arith in q)
       ∙ rest-judged x base pointer 0 (rest-start x base pointer from) (omega arith) (rw (add-zero pointer) e) n (rw (add-zero o) (found ∙ ap (λ (s : List ℕ). length (beforeNul s)) (sym (part o 64 x)))) short

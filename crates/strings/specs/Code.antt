@@ -9,7 +9,7 @@ unfoldable pub asciiFront : List ℕ → List ℕ
 asciiFront [] = []
 asciiFront (b ∷ s) = pick (eqb b 0 || ltb 127 b) [] (b ∷ asciiFront s)
 
--- n, if below 64, is the length of the string at the pointer, which is accepted
+-- n, if below 64, is the length and the width of the string at the pointer, which is accepted
 pub record ShortAscii (x : List ℕ) (base pointer n : ℕ) : Type 0 where
   pub from : n < 64 → base ≤ pointer
-  pub told : n < 64 → acceptedText (pointer - base) n ≡ run (textP base pointer) x
+  pub told : n < 64 → acceptedText (pointer - base) n n ≡ run (textP base pointer) x

@@ -23,7 +23,8 @@ fn ascii_front(s: &[u8]) -> usize
     i
 }
 
-// The length of a string that is ASCII and ends in its first chunk, as most do: its bytes need no second look. A chunk's length for any other.
+// The length of a string that is ASCII and ends in its first chunk, as most do: it is its width too, and its bytes need no second look. A
+// chunk's length for any other.
 fn short_ascii(image: &[u8], base: u32, ptr: u32) -> usize
     ensures { ShortAscii image.now base ptr result }
 {
@@ -51,15 +52,18 @@ fn refuse(number: u8) -> Text
         number,
         offset: 0,
         length: 0,
+        width: 0,
     }
 }
 
-// Any string, as a report or a row holds it.
+// Any string, as a report or a row holds it. By itself, so that the quick way pays nothing for it.
+#[inline(never)]
 fn read_any_string(image: &[u8], base: u32, ptr: u32) -> Text
     ensures { result ≡ run (textP base ptr) image.now }
 {
     let mut number = 0;
-    let part = chunks::read_string(image, base, ptr, &mut number);
+    let mut width = 0;
+    let part = chunks::read_string(image, base, ptr, &mut number, &mut width);
     if number != 0 {
         return refuse(number);
     }
@@ -67,6 +71,7 @@ fn read_any_string(image: &[u8], base: u32, ptr: u32) -> Text
         number: 0,
         offset: ptr - base,
         length: part.len() as u32,
+        width,
     }
 }
 
@@ -77,10 +82,12 @@ pub fn read_string_at_ptr(image: &[u8], base: u32, ptr: u32) -> Text
     let n = short_ascii(image, base, ptr);
     if n < CHUNK {
         let offset = ptr - base;
+        let length = n as u32;
         return Text {
             number: 0,
             offset,
-            length: n as u32,
+            length,
+            width: length,
         };
     }
     read_any_string(image, base, ptr)

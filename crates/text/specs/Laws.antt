@@ -1,2 +1,3 @@
-pub mod Chunks
 pub mod Nul
+pub mod Chunks
+pub mod Width

@@ -4,15 +4,16 @@ use Rattle.base.specs.Choice.{pick}
 use Rattle.prog.specs.Prog.{Prog, done, fetch, run}
 use Rattle.window.specs.Window.{pastWindow}
 use Rattle.utf8.specs.Utf8.{isUtf8}
+use Rattle.utf8.specs.Points.{points}
 use Rattle.text.specs.declared.Text.{Text as Str}
 
--- an accepted string is that part of the image, without its NUL
-abbrev pub acceptedText : ℕ → ℕ → Str
-acceptedText offset len = record { number = 0; offset = offset; length = len }
+-- an accepted string is that part of the image, without its NUL, and gives its width
+abbrev pub acceptedText : ℕ → ℕ → ℕ → Str
+acceptedText offset len wide = record { number = 0; offset = offset; length = len; width = wide }
 
--- a refused one shows offset 0 and length 0
+-- a refused one shows offset, length and width 0
 abbrev pub refusedText : ℕ → Str
-refusedText n = record { number = n; offset = 0; length = 0 }
+refusedText n = record { number = n; offset = 0; length = 0; width = 0 }
 
 -- the bytes of a string
 abbrev pub bytesOf : List ℕ → Str → List ℕ
@@ -31,9 +32,9 @@ unfoldable pub beforeNul : List ℕ → List ℕ
 beforeNul [] = []
 beforeNul (b ∷ s) = pick (eqb b 0) [] (b ∷ beforeNul s)
 
--- UTF-8 is judged only on a string whose NUL was found. 21: not UTF-8.
+-- UTF-8 is judged only on a string whose NUL was found. 21: not UTF-8. Document 02, wish 3: an accepted string's width is its code points.
 unfoldable pub judged : ℕ → List ℕ → Str
-judged offset s = pick (isUtf8 s) (acceptedText offset (length s)) (refusedText 21)
+judged offset s = pick (isUtf8 s) (acceptedText offset (length s) (points s)) (refusedText 21)
 
 -- The chunks that are left, of which the next starts at address a; s is what the earlier ones held. Each chunk must be wholly readable.
 -- 2: a chunk ended before a NUL was found. 20: 1,024 bytes, no NUL.
@@ -51,6 +52,6 @@ textP base pointer = pick (ltb pointer base) (done (refusedText 3)) (chunksP 16 
 unfoldable pub stringCall : ℕ → ℕ → List ℕ → Str
 stringCall base pointer x = pick (pastWindow base x) (refusedText 1) (run (textP base pointer) x)
 
--- the two lent words afterwards: offset and length; a refusal changes none
+-- the three lent words afterwards: offset, length and width; a refusal changes none
 abbrev pub partAfter : Str → List ℕ → List ℕ
-partAfter t before = pick (eqb t.number 0) (t.offset ∷ t.length ∷ []) before
+partAfter t before = pick (eqb t.number 0) (t.offset ∷ t.length ∷ t.width ∷ []) before

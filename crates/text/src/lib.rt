@@ -4,12 +4,17 @@
 ghost use Rattle.std.specs.Prelude.{◌≡◌};
 ghost use Rattle.text.specs.Text.{partOf};
 
-// An accepted string's part of the image, without its NUL, and number 0; or the refusal's number, with offset and length 0.
+// How many words tell an accepted string's part: offset, length, width.
+pub const PART_WORDS: usize = 3;
+
+// An accepted string's part of the image, without its NUL, its width in code points, and number 0; or the refusal's number, with offset,
+// length and width 0.
 #[derive(Clone, Copy)]
 pub struct Text {
     pub number: u8,
     pub offset: u32,
     pub length: u32,
+    pub width: u32,
 }
 
 // The part of the image that a string's offset and length name; an empty part where that does not lie in the image.

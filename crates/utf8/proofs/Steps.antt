@@ -6,9 +6,12 @@ use mathlib.Core.Logic.{◌≢◌}
 use mathlib.Core.Bool.{Bool, true, false, ◌&&◌}
 use native.Mathlib.Numerals.{add-one, sub-one}
 use lib.Dec.{eqb, eqb-suc-zero}
+use Rattle.std.specs.Prelude.{Some, None, is_some}
+use Rattle.base.specs.Choice.{pick}
 use lib.ListN.{length, get_or, drop, drop_of_length-le}
 use lib.Seq.{drop-cons}
-use Rattle.utf8.specs.Utf8.{within, classOf, begins, lowAfter, highAfter, lacking}
+use Rattle.utf8.specs.Utf8.{within, classOf, begins, lowAfter, highAfter, lacking, isUtf8}
+use Rattle.utf8.specs.Points.{pointsAfter, points, pointsOf}
 
 -- n continuation bytes are lacking after p, and u is the answer for s from i on; k is the class that the code looked up,
 -- and t what its test said.
@@ -47,3 +50,41 @@ at-end s i n p h = rw (drop_of_length-le s h) (go n)
     go : (n : ℕ) → lacking n p [] ≡ eqb n 0
     go zero = refl
     go (suc n) = rw eqb-suc-zero
+
+-- ---- the code points, counted where a character begins
+
+module _ (s : List ℕ) (i n : ℕ) (inside : i < length s) where
+  pub counts-lead : n ≡ 0 → pointsAfter n (drop i s) ≡ suc (pointsAfter (classOf (get_or s i 0) - 1) (drop (i + 1) s))
+  unfolding pointsAfter
+  counts-lead z = rw add-one (rw (z, drop-cons s i 0 inside))
+
+  pub counts-tail : n ≢ 0 → pointsAfter n (drop i s) ≡ pointsAfter (n - 1) (drop (i + 1) s)
+  unfolding pointsAfter
+  counts-tail z = go n z
+    where
+      go : (m : ℕ) → m ≢ 0 → pointsAfter m (drop i s) ≡ pointsAfter (m - 1) (drop (i + 1) s)
+      go zero z = absurd (z refl)
+      go (suc m) z = rw (add-one, sub-one) (rw (drop-cons s i 0 inside))
+
+pub counts-none : (s : List ℕ) (i n : ℕ) → length s ≤ i → pointsAfter n (drop i s) ≡ 0
+unfolding pointsAfter
+counts-none s i n h = rw (drop_of_length-le s h)
+
+-- what is handed back
+pub none-counted : (s : List ℕ) → false ≡ isUtf8 s → None ≡ pointsOf s
+unfolding pointsOf
+none-counted s e = rw (sym e)
+
+pub all-counted : (s : List ℕ) (n : ℕ) → true ≡ isUtf8 s → n ≡ points s → Some n ≡ pointsOf s
+unfolding pointsOf
+all-counted s n e f = rw (sym e, f)
+
+pub some-counted : (s : List ℕ) → is_some (pointsOf s) ≡ isUtf8 s
+unfolding pointsOf
+some-counted s = go (isUtf8 s) (points s)
+  where
+    go : (b : Bool) (n : ℕ) → is_some (pick b (Some n) None) ≡ b
+    go true n = refl
+    go false n = refl
+
+pub ruleset some_counted = (some-counted)

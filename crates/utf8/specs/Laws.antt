@@ -1,2 +1,3 @@
 pub mod Chars
 pub mod Sound
+pub mod Points

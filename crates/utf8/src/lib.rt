@@ -5,6 +5,7 @@ mod classes;
 
 ghost use Rattle.std.specs.Prelude.{◌≡◌};
 ghost use Rattle.utf8.specs.Utf8.{within, classOf, ClassTable, lowAfter, highAfter, isUtf8};
+ghost use Rattle.utf8.specs.Points.{pointsOf};
 
 use classes::{ALONE, LEAD_OF_FOUR, UTF8_CLASSES};
 
@@ -45,37 +46,52 @@ fn high_after(last: u8) -> u8
     }
 }
 
-// Whether s is UTF-8: byte by byte, with the number of continuation bytes still lacking and the byte before.
-fn scan(classes: &[u8; 256], s: &[u8]) -> bool
+// The code points of s, if it is UTF-8: byte by byte, with the number of continuation bytes still lacking and the byte before. A character
+// counts at its first byte. By itself, so that its loop holds nothing of its caller's.
+#[inline(never)]
+fn scan(classes: &[u8; 256], s: &[u8]) -> Option<usize>
     requires { ClassTable classes.now }
-    ensures { result ≡ isUtf8 s.now }
+    ensures { result ≡ pointsOf s.now }
 {
     let mut lacks: u8 = 0;
     let mut last: u8 = 0;
+    let mut points: usize = 0;
     let mut i: usize = 0;
     while i < s.len() {
         let b = s[i];
         if lacks == 0 {
             let k = class_of(classes, b);
             if !is_within(ALONE, LEAD_OF_FOUR, k) {
-                return false;
+                return None;
             }
             lacks = k - 1;
+            points += 1;
         } else {
             if !is_within(low_after(last), high_after(last), b) {
-                return false;
+                return None;
             }
             lacks -= 1;
         }
         last = b;
         i += 1;
     }
-    lacks == 0
+    if lacks == 0 {
+        return Some(points);
+    }
+    None
+}
+
+// The code points of s, if it is UTF-8.
+pub fn code_points(s: &[u8]) -> Option<usize>
+    ensures { result ≡ pointsOf s.now }
+{
+    scan(&UTF8_CLASSES, s)
 }
 
 // Whether s is UTF-8.
+#[tactic(auto, using(crate::proofs::Steps::some_counted))]
 pub fn is_utf8(s: &[u8]) -> bool
     ensures { result ≡ isUtf8 s.now }
 {
-    scan(&UTF8_CLASSES, s)
+    code_points(s).is_some()
 }

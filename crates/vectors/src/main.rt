@@ -42,9 +42,9 @@ fn run_extra_info(rt: &impl Print, line: &[u8], image: &[u8]) -> io::Result<()> 
 
 // A string by the call for C and Rust.
 fn run_string(rt: &impl Print, image: &[u8], base: u32, pointer: u32) -> io::Result<()> {
-    let mut part = [0u32; 2];
+    let mut part = [0u32; text::PART_WORDS];
     let number = c_string::string_call(image, base, pointer, &mut part);
-    show::three(rt, number, part[0], part[1])
+    show::four(rt, number, part[0], part[1], part[2])
 }
 
 // A kind whose numbers are a base and a pointer or an offset.

@@ -46,14 +46,14 @@ pub(crate) fn gap(rt: &impl Print) -> io::Result<()> {
     print!(rt; " ")
 }
 
-pub(crate) fn three(rt: &impl Print, a: u32, b: u32, c: u32) -> io::Result<()> {
-    first(rt, a)?;
-    next(rt, b)?;
-    next(rt, c)
+pub(crate) fn four(rt: &impl Print, a: u32, b: u32, c: u32, d: u32) -> io::Result<()> {
+    two(rt, a, b)?;
+    next(rt, c)?;
+    next(rt, d)
 }
 
 pub(crate) fn text(rt: &impl Print, t: Text) -> io::Result<()> {
-    three(rt, t.number as u32, t.offset, t.length)
+    four(rt, t.number as u32, t.offset, t.length, t.width)
 }
 
 pub(crate) fn metadata(rt: &impl Print, m: MetadataAnswer) -> io::Result<()> {

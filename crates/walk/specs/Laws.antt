@@ -6,3 +6,4 @@ pub mod Rows
 pub mod Says
 pub mod Total
 pub mod Reached
+pub mod NameWords

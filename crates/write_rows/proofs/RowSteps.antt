@@ -14,7 +14,7 @@ use Rattle.window.specs.Window.{onFrom}
 use Rattle.le.specs.Le.{u8At, u32At}
 use Rattle.prog.specs.Prog.{run}
 use Rattle.prog.specs.Laws.Run.{run-done}
-use Rattle.rows.specs.LentRows.{setWidth, romWidth}
+use Rattle.rows.specs.LentRows.{setRowLength, romRowLength}
 use Rattle.text.specs.declared.Text.{Text}
 use Rattle.text.specs.Text.{refusedText, textP}
 use Rattle.walk.specs.Walk.{noName, nameAt, RomSet, romOf, romsOf}
@@ -68,15 +68,15 @@ module _ (x : List ℕ) (base : ℕ) (filenames : Bool) (l : List ℕ) (at entry
   roms-written e = rw e
 
   pub roms-write : (left ≡ 0 → ⊥) → (r : List ℕ) → r ≡ namedRow x base (romAt x base filenames entry)
-      → sets (sets l at r) (at + romWidth) (namedRows x base (romsAt x base filenames (entry + 4) (left - 1))) ≡ sets l at (namedRows x base (romsAt x base filenames entry left))
+      → sets (sets l at r) (at + romRowLength) (namedRows x base (romsAt x base filenames (entry + 4) (left - 1))) ≡ sets l at (namedRows x base (romsAt x base filenames entry left))
   unfolding namedRows romsAt
   roms-write h r v = go left h
     where
-      wide : length r ≡ romWidth
+      wide : length r ≡ romRowLength
       wide = rw v (named-row-length x base (romAt x base filenames entry))
 
       go : (k : ℕ) → (k ≡ 0 → ⊥)
-          → sets (sets l at r) (at + romWidth) (namedRows x base (romsAt x base filenames (entry + 4) (k - 1))) ≡ sets l at (namedRows x base (romsAt x base filenames entry k))
+          → sets (sets l at r) (at + romRowLength) (namedRows x base (romsAt x base filenames (entry + 4) (k - 1))) ≡ sets l at (namedRows x base (romsAt x base filenames entry k))
       go zero i = absurd (i refl)
       go (suc k) i =
           let e = sym (sets-append l r (namedRows x base (romsAt x base filenames (entry + 4) k)) at) in
@@ -95,23 +95,23 @@ module _ (x : List ℕ) (base : ℕ) (filenames long : Bool) (pointer i address 
   abbrev one : RomSet
   one = setOf s (partRoms x base filenames s)
 
-  pub sets-write : l ≡ sets l₀ 0 (setRows earlier) → (r : List ℕ) → r ≡ setRowWords total s → k ≡ sets l (setWidth * i) r
+  pub sets-write : l ≡ sets l₀ 0 (setRows earlier) → (r : List ℕ) → r ≡ setRowWords total s → k ≡ sets l (setRowLength * i) r
       → k ≡ sets l₀ 0 (setRows (setsAt x base filenames long pointer (i + 1)))
   sets-write h r f j =
-      let wide : length (setRows earlier) ≡ setWidth * i = set-rows-length earlier ∙ rw (sets-length x base filenames long pointer i) in
+      let wide : length (setRows earlier) ≡ setRowLength * i = set-rows-length earlier ∙ rw (sets-length x base filenames long pointer i) in
       let row : r ≡ setRow (countsOf earlier) one = f ∙ rw e (sym (set-words (countsOf earlier) s (partRoms x base filenames s))) in
-      let a : sets l₀ 0 (setRows earlier ++ setRow (countsOf earlier) one) ≡ sets (sets l₀ 0 (setRows earlier)) (setWidth * i) (setRow (countsOf earlier) one) =
+      let a : sets l₀ 0 (setRows earlier ++ setRow (countsOf earlier) one) ≡ sets (sets l₀ 0 (setRows earlier)) (setRowLength * i) (setRow (countsOf earlier) one) =
       rw (zero-add, wide) at (sets-append l₀ (setRows earlier) (setRow (countsOf earlier) one) 0) in
       rw (sets-more x base filenames long pointer i address v s w, set-rows-more earlier one) (j ∙ rw (h, row) (sym a))
 
   pub all-write : l ≡ sets l₀ 0 (namedRows x base (romsOf earlier)) → (t n : ℕ) → t ≡ u32At s 8 → n ≡ u8At s 12
-      → k ≡ sets l (romWidth * total) (namedRows x base (romsAt x base filenames t n))
+      → k ≡ sets l (romRowLength * total) (namedRows x base (romsAt x base filenames t n))
       → k ≡ sets l₀ 0 (namedRows x base (romsOf (setsAt x base filenames long pointer (i + 1))))
   unfolding setOf
   all-write h t n f g j =
       let rs = partRoms x base filenames s in
-      let wide : length (namedRows x base (romsOf earlier)) ≡ romWidth * total =
+      let wide : length (namedRows x base (romsOf earlier)) ≡ romRowLength * total =
       named-length x base (romsOf earlier) ∙ rw (e, total-roms x base filenames long i pointer) in
-      let a : sets l₀ 0 (namedRows x base (romsOf earlier) ++ namedRows x base rs) ≡ sets (sets l₀ 0 (namedRows x base (romsOf earlier))) (romWidth * total) (namedRows x base rs) =
+      let a : sets l₀ 0 (namedRows x base (romsOf earlier) ++ namedRows x base rs) ≡ sets (sets l₀ 0 (namedRows x base (romsOf earlier))) (romRowLength * total) (namedRows x base rs) =
       rw (zero-add, wide) at (sets-append l₀ (namedRows x base (romsOf earlier)) (namedRows x base rs) 0) in
       rw (sets-more x base filenames long pointer i address v s w, roms-more earlier one, named-append x base (romsOf earlier) rs) (j ∙ rw (h, f, g) (sym a))

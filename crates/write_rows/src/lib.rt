@@ -4,7 +4,7 @@
 ghost use Rattle.std.specs.Prelude.{◌≡◌, ◌+◌, ◌*◌, ◌≤◌, length};
 ghost use Rattle.std.proofs.lemmas.List.Edits.{sets};
 ghost use Rattle.prog.specs.Prog.{run};
-ghost use Rattle.rows.specs.LentRows.{setWidth, romWidth};
+ghost use Rattle.rows.specs.LentRows.{setRowLength, romRowLength};
 ghost use Rattle.walk.specs.Walk.{romOf, romsOf};
 ghost use Rattle.walk.specs.Rows.{setRows};
 ghost use Rattle.walk.specs.Names.{nameP};
@@ -55,6 +55,7 @@ fn rom_row(s: &[u8], name: Text) -> [u32; rows::ROM_WORDS]
         name.offset,
         name.length,
         name.number as u32,
+        name.width,
     ]
 }
 
@@ -72,6 +73,7 @@ fn rom_name(image: &[u8], base: u32, filenames: bool, s: &[u8]) -> Text
         number: 1,
         offset: 0,
         length: 0,
+        width: 0,
     }
 }
 
@@ -95,7 +97,7 @@ fn write_roms(
     table: u32,
     count: u8,
 )
-    requires { from + romWidth * count ≤ length rows.old }
+    requires { from + romRowLength * count ≤ length rows.old }
     ensures { rows.new ≡ sets rows.old from (namedRows image.now base (romsAt image.now base filenames table count)) }
 {
     let mut entry = table as u64;
@@ -122,7 +124,7 @@ pub fn write_rom_sets(
     set_rows: &mut [u32],
     rom_rows: &mut [u32],
 )
-    requires { (setWidth * count ≤ length set_rows.old) × (romWidth * length (romsOf (setsAt image.now base filenames long ptr count)) ≤ length rom_rows.old) }
+    requires { (setRowLength * count ≤ length set_rows.old) × (romRowLength * length (romsOf (setsAt image.now base filenames long ptr count)) ≤ length rom_rows.old) }
     ensures sets { set_rows.new ≡ sets set_rows.old 0 (setRows (setsAt image.now base filenames long ptr count)) }
     ensures roms { rom_rows.new ≡ sets rom_rows.old 0 (namedRows image.now base (romsOf (setsAt image.now base filenames long ptr count))) }
 {

@@ -9,7 +9,7 @@ use Rattle.text.specs.declared.Text.{Text}
 use Rattle.pins.specs.declared.PinsItem.{PinsItem}
 use Rattle.board.specs.Board.{boardPins}
 use Rattle.walk.specs.Walk.{Rom, RomSet, romsOf}
-use Rattle.rows.specs.LentRows.{romWidth, typeWord}
+use Rattle.rows.specs.LentRows.{romRowLength, typeWord}
 use Rattle.walk.specs.Rows.{setRows, romFront, romRows, overwritten}
 use Rattle.walk.specs.Laws.Rows.{rom-rows-length, type-words}
 use Rattle.info.specs.Lent.{Lent, lentBy}
@@ -27,7 +27,7 @@ same-count rs ss e = sym (length-map rs romFront) ∙ ap length e ∙ length-map
 
 module _ (rs ss : List Rom) (ts us : List Text) (e : map romFront rs ≡ map romFront ss) (lent : List ℕ) where
   same-words : length (romRows rs ts) ≡ length (romRows ss us)
-  same-words = rom-rows-length rs ts ∙ ap (λ (n : ℕ). romWidth * n) (same-count rs ss e) ∙ sym (rom-rows-length ss us)
+  same-words = rom-rows-length rs ts ∙ ap (λ (n : ℕ). romRowLength * n) (same-count rs ss e) ∙ sym (rom-rows-length ss us)
 
   pub rows-length : length (overwritten (romRows rs ts) lent) ≡ length (overwritten (romRows ss us) lent)
   rows-length =

@@ -18,7 +18,7 @@ use Rattle.header.specs.declared.SdrrInfoHeader.{SdrrInfoHeader}
 use Rattle.header.specs.declared.HeaderAnswer.{HeaderAnswer}
 use Rattle.header.specs.Header.{headerP}
 use Rattle.walk.specs.Walk.{RomSet, romsOf}
-use Rattle.rows.specs.LentRows.{setWidth, romWidth}
+use Rattle.rows.specs.LentRows.{setRowLength, romRowLength}
 use Rattle.walk.specs.Rows.{shortSets, shortRoms, overwritten}
 use Rattle.window.specs.declared.Settings.{Settings}
 use Rattle.sdrr_info.specs.declared.SdrrInfo.{SdrrInfo}
@@ -26,7 +26,7 @@ use Rattle.fw_parser.specs.Opening.{Items, ItemAnswers, setsOf, reportOf, itemsO
 
 abbrev pub Fits : ℕ → ℕ → Opened → Type 0
 Fits setWords romWords (refused n) = n ≡ 0 → ⊥
-Fits setWords romWords (opened r ss names) = (setWidth * length ss ≤ setWords) × (romWidth * length (romsOf ss) ≤ romWords)
+Fits setWords romWords (opened r ss names) = (setRowLength * length ss ≤ setWords) × (romRowLength * length (romsOf ss) ≤ romWords)
 
 module _ (n m : ℕ) where
   verdict-fits : (h : SdrrInfoHeader) (i : Items) → Fits n m (verdict n m h i)
@@ -39,7 +39,7 @@ module _ (n m : ℕ) where
       go : (a b : Bool) → shortSets ss n ≡ a → shortRoms ss m ≡ b → Fits n m (pick a (refused 44) (pick b (refused 45) (opened (reportOf h i) ss i.names)))
       go true b e f = λ (z : ◌≡◌ {A = ℕ} 44 0). omega arith
       go false true e f = λ (z : ◌≡◌ {A = ℕ} 45 0). omega arith
-      go false false e f = (ltb-false n (setWidth * length ss) e, ltb-false m (romWidth * length (romsOf ss)) f)
+      go false false e f = (ltb-false n (setRowLength * length ss) e, ltb-false m (romRowLength * length (romsOf ss)) f)
 
   module _ (s : Settings) (x : List ℕ) where
     after-fits : (a : HeaderAnswer) → Fits n m (run (afterHeader s n m a) x)

@@ -1,6 +1,6 @@
 -- Each item has a program of its own: the header's reads, then those that the item needs. The opening's item is its answer.
 -- Assumes nothing.
-use Rattle.std.specs.Prelude.{ℕ, ◌≡◌, Bool, List, length}
+use Rattle.std.specs.Prelude.{ℕ, ◌≡◌, Bool, List, length, get_or}
 use Rattle.std.proofs.Math.Path.{refl, sym, ap}
 use Rattle.std.proofs.Common.{◌∙◌}
 use Rattle.std.proofs.Math.Bool.{true, false}
@@ -11,7 +11,7 @@ use Rattle.window.specs.Window.{baseAfter}
 use Rattle.prog.specs.Prog.{Prog, done, ◌>>=◌, mapP, run}
 use Rattle.prog.specs.Laws.Run.{run-bind, run-map, run-also}
 use Rattle.text.specs.declared.Text.{Text}
-use Rattle.text.specs.Text.{textP}
+use Rattle.text.specs.Text.{refusedText, textP}
 use Rattle.header.specs.declared.SdrrInfoHeader.{SdrrInfoHeader}
 use Rattle.header.specs.declared.HeaderAnswer.{HeaderAnswer}
 use Rattle.header.specs.Header.{headerP}
@@ -23,6 +23,7 @@ use Rattle.walk.specs.Walk.{RomSet, Part, stop, found, romsOf}
 use Rattle.walk.specs.Rows.{shortSets, shortRoms}
 use Rattle.walk.specs.Names.{walkNamesP}
 use Rattle.walk.specs.Laws.Ended.{names-each, no-name-shown}
+use Rattle.walk.specs.Laws.NameWords.{NameRead, walk-names-read}
 use Rattle.window.specs.declared.Settings.{Settings}
 use Rattle.sdrr_info.specs.declared.SdrrInfo.{SdrrInfo}
 use Rattle.fw_parser.specs.Opening.{Looked, lookP, Sets, setsItemP, Items, ItemAnswers, itemsOf, itemsP, metadataItem, setsItem, reportOf, setsOf, refused, opened, verdict, afterHeader, openP}
@@ -195,9 +196,10 @@ module _ (s : Settings) (x : List ℕ) where
       let p = row-parts base h x in
       ((itemsOf (run (itemsP base h) x)).sets, sym (run-bind x (lookP base h) (λ l. setsItemP base h l)) ∙ p.sets, ap (λ (i : SdrrInfo). i.rom_sets) v.0, v.1)
 
-  -- one name for each ROM that the rows list
-  pub opened-names : (n m : ℕ) (r : SdrrInfo) (ss : List RomSet) (names : List Text) → run (openP s n m) x ≡ opened r ss names → length names ≡ length (romsOf ss)
-  opened-names n m r ss names e =
+  -- the names are those of the walk
+  walked : (n m : ℕ) (r : SdrrInfo) (ss : List RomSet) (names : List Text) → run (openP s n m) x ≡ opened r ss names
+      → (w : Part (List RomSet)) × (run (walkNamesP base w) x ≡ names) × (setsOf w ≡ ss)
+  walked n m r ss names e =
       let h = header.header in
       let a = accepted-header n m r ss names (sym (open-run n m) ∙ e) in
       let t = itemsOf (run (itemsP base h) x) in
@@ -205,4 +207,25 @@ module _ (s : Settings) (x : List ℕ) where
       let p = row-parts base h x in
       let read : t.names ≡ run (walkNamesP base t.sets.walk) x =
       sym p.names ∙ run-bind x (setsBehindP base h) (λ s. walkNamesP base s.walk) ∙ ap (λ (u : Sets). run (walkNamesP base u.walk) x) p.sets in
-      rw (← v.2, ← v.1, read) (walk-names-each base t.sets.walk x)
+      (t.sets.walk, sym read ∙ v.2, v.1)
+
+  -- one name for each ROM that the rows list
+  pub opened-names : (n m : ℕ) (r : SdrrInfo) (ss : List RomSet) (names : List Text) → run (openP s n m) x ≡ opened r ss names → length names ≡ length (romsOf ss)
+  opened-names n m r ss names e =
+      let w = walked n m r ss names e in
+      ap length (sym w.1) ∙ walk-names-each base w.0 x ∙ ap (λ (l : List RomSet). length (romsOf l)) w.2
+
+  -- the report's two strings, and each name, are what a string of the image answers
+  pub opened-strings : (n m : ℕ) (r : SdrrInfo) (ss : List RomSet) (names : List Text) → run (openP s n m) x ≡ opened r ss names
+      → (run (textP base header.header.build_date_ptr) x ≡ r.build_date) × (run (textP base header.header.hw_rev_ptr) x ≡ r.hw_rev)
+  unfolding reportOf
+  opened-strings n m r ss names e =
+      let h = header.header in
+      let a = accepted-header n m r ss names (sym (open-run n m) ∙ e) in
+      let v = let-through n m h (itemsOf (run (itemsP base h) x)) r ss names a.1 in
+      let p = row-parts base h x in
+      (p.date ∙ ap (λ (i : SdrrInfo). i.build_date) v.0, p.rev ∙ ap (λ (i : SdrrInfo). i.hw_rev) v.0)
+
+  pub opened-names-read : (n m : ℕ) (r : SdrrInfo) (ss : List RomSet) (names : List Text) → run (openP s n m) x ≡ opened r ss names
+      → (i : ℕ) → NameRead x (get_or names i (refusedText 1))
+  opened-names-read n m r ss names e i = let w = walked n m r ss names e in rw (← w.1) (walk-names-read x base w.0 i)

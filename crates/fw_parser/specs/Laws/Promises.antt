@@ -9,7 +9,7 @@ use Rattle.std.proofs.Math.Path.{refl}
 use Rattle.std.proofs.Math.ListN.{length}
 use Rattle.text.specs.declared.Text.{Text}
 use Rattle.walk.specs.Walk.{RomSet, romsOf}
-use Rattle.rows.specs.LentRows.{setWidth, romWidth}
+use Rattle.rows.specs.LentRows.{setRowLength, romRowLength}
 use Rattle.walk.specs.Rows.{setRows, romRows}
 use Rattle.walk.specs.Laws.Rows.{set-rows-length, rom-rows-length}
 use Rattle.window.specs.declared.Settings.{Settings}
@@ -62,8 +62,8 @@ module _ (s : Settings) (sets roms x : List ℕ) where
     pub replies : (replied s sets roms x).info ≡ report
     pub named : length names ≡ length (romsOf listed)
     pub serves : ServedSets report.rom_sets listed
-    pub set-rows : Front (setWidth * length listed) (setRows listed) sets (setsAfter s sets roms x)
-    pub rom-rows : Front (romWidth * length (romsOf listed)) (romRows (romsOf listed) names) roms (romsAfter s sets roms x)
+    pub set-rows : Front (setRowLength * length listed) (setRows listed) sets (setsAfter s sets roms x)
+    pub rom-rows : Front (romRowLength * length (romsOf listed)) (romRows (romsOf listed) names) roms (romsAfter s sets roms x)
 
   pub accepted-changes-rows : (replied s sets roms x).number ≡ 0 → Accepted
   unfolding openingReply
@@ -80,6 +80,6 @@ module _ (s : Settings) (sets roms x : List ℕ) where
             replies = rw e;
             named = opened-names s x (length sets) (length roms) r ss names (opened-run (length sets) (length roms) s x r ss names e);
             serves = served-sets s (length sets) (length roms) x r ss names (opened-run (length sets) (length roms) s x r ss names e);
-            set-rows = rw e (overwritten-front (setRows ss) sets (setWidth * length ss) (set-rows-length ss) f.0);
-            rom-rows = rw e (overwritten-front (romRows (romsOf ss) names) roms (romWidth * length (romsOf ss)) (rom-rows-length (romsOf ss) names) f.1);
+            set-rows = rw e (overwritten-front (setRows ss) sets (setRowLength * length ss) (set-rows-length ss) f.0);
+            rom-rows = rw e (overwritten-front (romRows (romsOf ss) names) roms (romRowLength * length (romsOf ss)) (rom-rows-length (romsOf ss) names) f.1);
           }

@@ -9,7 +9,7 @@ use Rattle.base.specs.Laws.{cases}
 use Rattle.window.specs.Window.{baseAfter, beyondWindow}
 use Rattle.prog.specs.Prog.{Prog, run}
 use Rattle.rows.specs.declared.SetWord.{SetWord}
-use Rattle.rows.specs.LentRows.{setWidth, romWidth, setPlace, setWord, hasSetRow, hasRomRow, firstRom, romCount, typeWord}
+use Rattle.rows.specs.LentRows.{setRowLength, romRowLength, setPlace, setWord, hasSetRow, hasRomRow, firstRom, romCount, typeWord}
 use Rattle.governing.specs.Governing.{governing, governingOwn}
 use Rattle.info.specs.Lent.{Lent, mangledBy, mangleOwn}
 use Rattle.info.specs.Reads.{Bytes, own, ownPhysical, shownByte, dataP, storedP, finished, readReply, romRead}
@@ -65,7 +65,7 @@ module _ {i : ℕ} {l m : Lent} (alike : AlikeFor i l m) (address : ℕ) (levels
 
 -- ---- so any word of another set's row, set 0's if it is not named, and any ROM word but that one type may be altered
 
-place-inside : (w : SetWord) → setPlace w < setWidth
+place-inside : (w : SetWord) → setPlace w < setRowLength
 place-inside SetWord.DataPointer = omega arith
 place-inside SetWord.Size = omega arith
 place-inside SetWord.FirstRom = omega arith
@@ -76,15 +76,15 @@ place-inside SetWord.Config = omega arith
 place-inside SetWord.Overrides = omega arith
 
 module _ (l : Lent) (i k word address : ℕ) (levels : SdrrCsSet) (flashBase cs0Base count : ℕ) (x : List ℕ) where
-  outside-row : (k < setWidth * i) ⊎ (setWidth * i + setWidth ≤ k) → (w : SetWord) → (setWidth * i + setPlace w ≡ k → ⊥)
+  outside-row : (k < setRowLength * i) ⊎ (setRowLength * i + setRowLength ≤ k) → (w : SetWord) → (setRowLength * i + setPlace w ≡ k → ⊥)
   outside-row (inl h) w e = let p = place-inside w in omega arith
   outside-row (inr h) w e = let p = place-inside w in omega arith
 
-  pub other-row-altered : (k < setWidth * i) ⊎ (setWidth * i + setWidth ≤ k)
+  pub other-row-altered : (k < setRowLength * i) ⊎ (setRowLength * i + setRowLength ≤ k)
       → romRead flashBase cs0Base (record { line = l.line; pins = l.pins; served = l.served; setWords = set l.setWords k word; romWords = l.romWords }) count (own i address levels) x
       ≡ romRead flashBase cs0Base l count (own i address levels) x
   other-row-altered h =
-      let kept : (w : SetWord) → setWord (set l.setWords k word) i w ≡ setWord l.setWords i w = λ w. get_or-set_other l.setWords k (setWidth * i + setPlace w) word 0 (outside-row h w) in
+      let kept : (w : SetWord) → setWord (set l.setWords k word) i w ≡ setWord l.setWords i w = λ w. get_or-set_other l.setWords k (setRowLength * i + setPlace w) word 0 (outside-row h w) in
       own-looks
       (record {
         lines = refl;
@@ -96,7 +96,7 @@ module _ (l : Lent) (i k word address : ℕ) (levels : SdrrCsSet) (flashBase cs0
         type = λ some. refl;
       }) address levels flashBase cs0Base count x
 
-  pub other-rom-word-altered : (k ≡ romWidth * firstRom l.setWords i → ⊥)
+  pub other-rom-word-altered : (k ≡ romRowLength * firstRom l.setWords i → ⊥)
       → romRead flashBase cs0Base (record { line = l.line; pins = l.pins; served = l.served; setWords = l.setWords; romWords = set l.romWords k word }) count (own i address levels) x
       ≡ romRead flashBase cs0Base l count (own i address levels) x
   other-rom-word-altered h =
@@ -108,5 +108,5 @@ module _ (l : Lent) (i k word address : ℕ) (levels : SdrrCsSet) (flashBase cs0
         row-lent = refl;
         row = λ w. refl;
         rom-row-lent = λ some. rw (length-set l.romWords k word);
-        type = λ some. get_or-set_other l.romWords k (romWidth * firstRom l.setWords i + 0) word 0 (λ e. h (omega arith));
+        type = λ some. get_or-set_other l.romWords k (romRowLength * firstRom l.setWords i + 0) word 0 (λ e. h (omega arith));
       }) address levels flashBase cs0Base count x

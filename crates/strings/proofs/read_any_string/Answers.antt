@@ -18,4 +18,4 @@ overflow_cast-result c =
     record { fits = omega arith }
 
 pub returns : goal.returns
-returns c = made-whole _ _ _ _ c.read_string-part.ensures.part (sym c.read_string-part.ensures.number ∙ c.if-number-ne0.false)
+returns c = made-whole _ _ _ _ c.read_string-part.ensures.part (sym c.read_string-part.ensures.number ∙ c.if-number-ne0.false) _ c.read_string-part.ensures.width

@@ -14,6 +14,7 @@ use Rattle.prog.specs.Laws.Run.{run-done, run-failed, run-got}
 use Rattle.prog.specs.Laws.Honest.{Honest, honest-done, honest-fetch, honest-pick}
 use Rattle.prog.specs.Laws.Counts.{Within, within-done, within-fetch, within-pick, within-tried}
 use Rattle.utf8.specs.Utf8.{isUtf8}
+use Rattle.utf8.specs.Points.{points}
 use Rattle.text.specs.Text.{refusedText, bytesOf, partOf, hasNul, beforeNul, judged, chunksP, textP}
 use Rattle.text.specs.Laws.Nul.{clear-append, before-front, before-clear, before-shorter, before-nul, before-first}
 use Rattle.text.specs.declared.Text.{Text as Str}
@@ -109,7 +110,7 @@ module _ (x : List ℕ) (t : Str) where
 
 -- ---- what an answer holds
 
--- an accepted string starts at the pointer and ends before a NUL, in the image; it holds no NUL and is UTF-8
+-- an accepted string starts at the pointer and ends before a NUL, in the image; it holds no NUL and is UTF-8; its width is its code points
 pub record Accepted (x : List ℕ) (base pointer : ℕ) (t : Str) : Type 0 where
   pub from : base ≤ pointer
   pub starts : t.offset ≡ pointer - base
@@ -118,13 +119,14 @@ pub record Accepted (x : List ℕ) (base pointer : ℕ) (t : Str) : Type 0 where
   pub ends : get_or x (t.offset + t.length) 0 ≡ 0
   pub clear : hasNul (bytesOf x t) ≡ false
   pub utf8 : isUtf8 (bytesOf x t) ≡ true
+  pub wide : t.width ≡ points (bytesOf x t)
 
 -- it is what stands at its offset before the first NUL
 pub accepted-first : {x : List ℕ} {base pointer : ℕ} {t : Str} → Accepted x base pointer t → bytesOf x t ≡ beforeNul (drop t.offset x)
 accepted-first {x} {t = t} a =
     before-first (drop t.offset x) t.length (simp length-drop (let i = a.inside in omega arith)) (rw (get_or-drop t.offset x t.length 0) a.ends) a.clear
 
--- accepted, or refused: then it shows offset 0 and length 0
+-- accepted, or refused: then it shows offset, length and width 0
 record Told (x : List ℕ) (base pointer : ℕ) (t : Str) : Type 0 where
   good : t.number ≡ 0 → Accepted x base pointer t
   bad : (t.number ≡ 0 → ⊥) → t ≡ refusedText t.number
@@ -147,7 +149,7 @@ module _ (x : List ℕ) (base pointer : ℕ) where
         cases (isUtf8 s)
         (λ e. rw (e, full)
         (record {
-          good = λ i. record { from = from; starts = refl; short = short; inside = inside; ends = ends; clear = clear; utf8 = e };
+          good = λ i. record { from = from; starts = refl; short = short; inside = inside; ends = ends; clear = clear; utf8 = e; wide = refl };
           bad = λ i. absurd (i refl);
         }))
         (λ e. rw e (told-refused 21 (omega arith)))

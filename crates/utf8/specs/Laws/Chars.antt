@@ -8,7 +8,7 @@ use Rattle.utf8.specs.Rfc3629.{Octet, Utf8Tail, x00-7F, xC2-DF, xE0, xE1-EC, xED
 
 -- Tests: of both, of a range, of each number of a range.
 
-T-both : (p q : Bool) → T (p && q) → T p × T q
+pub T-both : (p q : Bool) → T (p && q) → T p × T q
 T-both true q t = (tt, t)
 T-both false q t = absurd t
 
@@ -39,7 +39,7 @@ below {A} a t f g = go (ltb a t) refl
     go false e = g (ltb-false a t e)
 
 -- the test f passes at low and at the n numbers after it
-abbrev passes : (ℕ → Bool) → ℕ → ℕ → Bool
+abbrev pub passes : (ℕ → Bool) → ℕ → ℕ → Bool
 passes f low zero = f low
 passes f low (suc n) = f low && passes f (suc low) n
 
@@ -49,10 +49,10 @@ passed f low (suc n) a t p q =
     let u = T-both (f low) (passes f (suc low) n) t in
     below a (suc low) (λ h. let e : a ≡ low = omega arith in rw e u.0) (λ h. passed f (suc low) n a u.1 h (omega arith))
 
-in-range : (f : ℕ → Bool) {low high a : ℕ} → Octet low high a → T (passes f low (high - low)) → T (f a)
+pub in-range : (f : ℕ → Bool) {low high a : ℕ} → Octet low high a → T (passes f low (high - low)) → T (f a)
 in-range f {low} {high} {a} i t = passed f low (high - low) a t i.least (omega arith)
 
-octet : (v : ℕ) → Octet v v v
+pub octet : (v : ℕ) → Octet v v v
 octet v = omega arith
 
 -- From the grammar to the test.

@@ -3,7 +3,7 @@
 use Rattle.std.specs.Prelude.{ℕ, zero, suc, ◌*◌, ◌<◌, ◌≡◌, refl, List, [], ◌∷◌, ◌++◌, map, length, get_or, take, drop}
 use Rattle.std.proofs.Common.{mul-zero, not-suc-le-zero, le_of_suc-le-suc, sym, ap, ◌∙◌, append_assoc, append-nil}
 use Rattle.base.specs.Laws.{clash}
-use Rattle.rows.specs.LentRows.{setWidth, romWidth, setPlace, romPlace, firstRom, typeWord}
+use Rattle.rows.specs.LentRows.{setRowLength, romRowLength, setPlace, romPlace, firstRom, typeWord}
 use Rattle.rows.specs.Laws.{one-row-more, in-later-row}
 use Rattle.rows.specs.declared.SetWord.{SetWord}
 use Rattle.rows.specs.declared.RomWord.{RomWord}
@@ -12,17 +12,17 @@ use Rattle.text.specs.Text.{refusedText}
 use Rattle.walk.specs.Walk.{Rom, RomSet, romsOf}
 use Rattle.walk.specs.Rows.{setRow, countsOf, setRowsAfter, setRows, romFront, nameWords, romRow, romRows}
 
-pub set-row-length : (first : ℕ) (s : RomSet) → length (setRow first s) ≡ setWidth
+pub set-row-length : (first : ℕ) (s : RomSet) → length (setRow first s) ≡ setRowLength
 unfolding setRow
 set-row-length first s = refl
 
-set-rows-from : (earlier ss : List RomSet) → length (setRowsAfter earlier ss) ≡ setWidth * length ss
+set-rows-from : (earlier ss : List RomSet) → length (setRowsAfter earlier ss) ≡ setRowLength * length ss
 unfolding setRowsAfter
-set-rows-from earlier [] = sym (mul-zero setWidth)
+set-rows-from earlier [] = sym (mul-zero setRowLength)
 set-rows-from earlier (s ∷ ss) =
-    one-row-more (setRow (countsOf earlier) s) (setRowsAfter (earlier ++ (s ∷ [])) ss) setWidth (set-row-length (countsOf earlier) s) (length ss) (set-rows-from (earlier ++ (s ∷ [])) ss)
+    one-row-more (setRow (countsOf earlier) s) (setRowsAfter (earlier ++ (s ∷ [])) ss) setRowLength (set-row-length (countsOf earlier) s) (length ss) (set-rows-from (earlier ++ (s ∷ [])) ss)
 
-pub set-rows-length : (ss : List RomSet) → length (setRows ss) ≡ setWidth * length ss
+pub set-rows-length : (ss : List RomSet) → length (setRows ss) ≡ setRowLength * length ss
 set-rows-length ss = set-rows-from [] ss
 
 rows-more : (earlier ss : List RomSet) (s : RomSet) → setRowsAfter earlier (ss ++ (s ∷ [])) ≡ setRowsAfter earlier ss ++ setRow (countsOf (earlier ++ ss)) s
@@ -41,15 +41,15 @@ unfolding romsOf
 roms-more [] s = append-nil s.roms
 roms-more (t ∷ ss) s = rw (roms-more ss s) (sym (append_assoc t.roms (romsOf ss) s.roms))
 
-pub rom-row-length : (r : Rom) (t : Text) → length (romRow r t) ≡ romWidth
+pub rom-row-length : (r : Rom) (t : Text) → length (romRow r t) ≡ romRowLength
 unfolding romRow romFront nameWords
 rom-row-length r t = refl
 
-pub rom-rows-length : (rs : List Rom) (ts : List Text) → length (romRows rs ts) ≡ romWidth * length rs
+pub rom-rows-length : (rs : List Rom) (ts : List Text) → length (romRows rs ts) ≡ romRowLength * length rs
 unfolding romRows
-rom-rows-length [] ts = sym (mul-zero romWidth)
+rom-rows-length [] ts = sym (mul-zero romRowLength)
 rom-rows-length (r ∷ rs) ts =
-    one-row-more (romRow r (get_or ts 0 (refusedText 1))) (romRows rs (drop 1 ts)) romWidth (rom-row-length r (get_or ts 0 (refusedText 1))) (length rs) (rom-rows-length rs (drop 1 ts))
+    one-row-more (romRow r (get_or ts 0 (refusedText 1))) (romRows rs (drop 1 ts)) romRowLength (rom-row-length r (get_or ts 0 (refusedText 1))) (length rs) (rom-rows-length rs (drop 1 ts))
 
 -- the type in a ROM row and in what follows it
 type-first : (r : Rom) (t : Text) (rest : List ℕ) → typeWord (romRow r t ++ rest) 0 ≡ r.romType
@@ -57,7 +57,7 @@ unfolding romRow romFront nameWords
 type-first r t rest = refl
 
 type-later : (r : Rom) (t : Text) (rest : List ℕ) (i : ℕ) → typeWord (romRow r t ++ rest) (suc i) ≡ typeWord rest i
-type-later r t rest i = in-later-row (romRow r t) rest romWidth (rom-row-length r t) i (romPlace RomWord.Type)
+type-later r t rest i = in-later-row (romRow r t) rest romRowLength (rom-row-length r t) i (romPlace RomWord.Type)
 
 pub same-fronts : (r s : Rom) → romFront r ≡ romFront s → r.romType ≡ s.romType
 unfolding romFront
@@ -83,7 +83,7 @@ type-words (r ∷ rs) (s ∷ ss) ts us rest e (suc i) =
 -- ---- the first ROM row of a set is the sum of the earlier sets' counts
 
 first-later : (first : ℕ) (s : RomSet) (rest : List ℕ) (i : ℕ) → firstRom (setRow first s ++ rest) (suc i) ≡ firstRom rest i
-first-later first s rest i = in-later-row (setRow first s) rest setWidth (set-row-length first s) i (setPlace SetWord.FirstRom)
+first-later first s rest i = in-later-row (setRow first s) rest setRowLength (set-row-length first s) i (setPlace SetWord.FirstRom)
 
 first-from : (earlier ss : List RomSet) (i : ℕ) → i < length ss → firstRom (setRowsAfter earlier ss) i ≡ countsOf (earlier ++ take i ss)
 unfolding setRowsAfter setRow

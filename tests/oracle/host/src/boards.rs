@@ -4,7 +4,7 @@ use onerom_fw_parser::readers::Tried;
 
 use crate::board;
 use crate::calls::{self, Call};
-use crate::ffi::{self, CReport, Lent};
+use crate::ffi::{self, CReport, Lent, ROM_NAME_REASON, ROM_WORDS};
 use crate::fixed::{TEMPLATES, template};
 use crate::image::Board;
 use crate::opening::{self, Opened, Opening};
@@ -97,8 +97,8 @@ fn short_rows(opened: &Opened, buffers: &Buffers) -> u32 {
 
 fn same_report(ours: &Report, rust: &Report) -> Compared {
     same("the header's fields", &ours.fields, &rust.fields)?;
-    same("build date: number, offset, length", ours.build_date, rust.build_date)?;
-    same("hardware revision: number, offset, length", ours.hw_rev, rust.hw_rev)?;
+    same("build date: number, offset, length, width", ours.build_date, rust.build_date)?;
+    same("hardware revision: number, offset, length, width", ours.hw_rev, rust.hw_rev)?;
     same("extra info", &ours.extra, &rust.extra)?;
     same("metadata's number", ours.metadata, rust.metadata)?;
     same("sets: number, count, served", ours.sets, rust.sets)?;
@@ -114,8 +114,8 @@ fn count_numbers(report: &Report, rom_rows: &[u32], tally: &mut Tally) {
     }
     tally.number("sets", report.sets[0]);
     tally.number("pins", report.pins.number);
-    for row in rom_rows.chunks(7) {
-        tally.number("names", row[6]);
+    for row in rom_rows.chunks(ROM_WORDS) {
+        tally.number("names", row[ROM_NAME_REASON]);
     }
 }
 

@@ -3,7 +3,7 @@
 use onerom_fw_parser::readers::{Window, block_on};
 use onerom_fw_parser::{Parser, SdrrAddress, SdrrInfo, SdrrLogicalAddress};
 
-use crate::ffi::{self, Address, Lent, Rows};
+use crate::ffi::{self, Address, Lent, ROM_WORDS, Rows, SET_WORDS};
 use crate::mangling::{self, MANGLE_TEXTS, cs_set, demangle_pin, lacks_rows, mangle_panic};
 use crate::opening::Opened;
 use crate::rng::Rng;
@@ -72,7 +72,7 @@ impl Asker<'_> {
 
     /// 4: the named set is served and its row isn't among those lent.
     fn lacks_set(&mut self, set: u32) -> bool {
-        let lacks = set < self.served() && 8 * (set as usize + 1) > self.lent.sets.len();
+        let lacks = set < self.served() && SET_WORDS * (set as usize + 1) > self.lent.sets.len();
         if lacks {
             self.tally.rule(Rule::LentRows);
         }
@@ -203,7 +203,7 @@ impl Asker<'_> {
         }
         let set = set as usize;
         let whole = self.lent.sets;
-        let sets = whole.get(8 * set..).unwrap_or(&[]);
+        let sets = whole.get(SET_WORDS * set..).unwrap_or(&[]);
         // 4 comes before 70 here
         if lacks_rows(Rows { served: 1, sets, roms: self.lent.roms }) {
             self.tally.rule(Rule::LentRows);
@@ -234,12 +234,12 @@ fn same_by_rows(lent: Lent<'_>, served: u32, a: u32, b: u32) -> (u32, u32) {
     }
     let mut facts = Vec::new();
     for set in [a, b] {
-        let Some(row) = lent.sets.get(8 * set as usize..8 * set as usize + 8) else { return (4, LENT) };
+        let Some(row) = lent.sets.get(SET_WORDS * set as usize..SET_WORDS * (set as usize + 1)) else { return (4, LENT) };
         let (first, count) = (row[2] as usize, row[3] as usize);
         // a set without ROMs needs no ROM row, wherever its first would stand
-        let part = if count == 0 { 0..0 } else { 7 * first..7 * (first + count) };
+        let part = if count == 0 { 0..0 } else { ROM_WORDS * first..ROM_WORDS * (first + count) };
         let Some(roms) = lent.roms.get(part) else { return (4, LENT) };
-        let types: Vec<u32> = roms.chunks(7).map(|r| r[0]).collect();
+        let types: Vec<u32> = roms.chunks(ROM_WORDS).map(|r| r[0]).collect();
         if types.iter().any(|t| *t > 33) {
             return (4, LENT);
         }
@@ -323,7 +323,7 @@ fn a_count(rng: &mut Rng, len: usize) -> u32 {
 pub fn random(rng: &mut Rng, opened: &Opened, image_len: usize) -> Call {
     let served = opened.report.sets[2] as usize;
     let set = a_set(rng, served);
-    let row = opened.set_rows.get(8 * set as usize..8 * set as usize + 8).unwrap_or(&[0; 8]);
+    let row = opened.set_rows.get(SET_WORDS * set as usize..SET_WORDS * (set as usize + 1)).unwrap_or(&[0; SET_WORDS]);
     let len = rng.pick(&[0, 0, 1, 1, 2, 16, 63, 64, 65, 256]);
     let len = if row[1] <= 65536 && rng.once_in(24) { row[1] as usize + rng.below(2) } else { len };
     let end = (opened.base as u64 + image_len as u64).wrapping_sub(row[0] as u64) as u32;

@@ -130,6 +130,7 @@ struct CText {
     number: u8,
     offset: u32,
     length: u32,
+    width: u32,
 }
 
 #[repr(C)]
@@ -185,13 +186,13 @@ pub struct COpening {
 }
 
 const _: () = assert!(size_of::<CHeader>() == 32);
-const _: () = assert!(size_of::<CText>() == 12);
+const _: () = assert!(size_of::<CText>() == 16);
 const _: () = assert!(size_of::<CExtraInfo>() == 16);
 const _: () = assert!(size_of::<CMetadata>() == 2);
 const _: () = assert!(size_of::<CSets>() == 8);
 const _: () = assert!(size_of::<CPins>() == 78);
-const _: () = assert!(size_of::<CReport>() == 164);
-const _: () = assert!(size_of::<COpening>() == 168);
+const _: () = assert!(size_of::<CReport>() == 172);
+const _: () = assert!(size_of::<COpening>() == 176);
 
 impl CReport {
     /// The values as the host compares them. A flag that is neither 0 nor 1 is none.
@@ -202,7 +203,7 @@ impl CReport {
         for (to, from) in flags.iter_mut().zip(h.flags) {
             *to = flag(from)?;
         }
-        let string = |s: CText| [s.number as u32, s.offset, s.length];
+        let string = |s: CText| [s.number as u32, s.offset, s.length, s.width];
         Some(Report {
             fields: Fields {
                 version: h.version,
@@ -243,12 +244,19 @@ impl CReport {
 // ---- the calls
 
 pub const RUNTIME_WORDS: usize = 25;
+/// A string's part: offset, length, width.
+pub const PART_WORDS: usize = 3;
+pub const SET_WORDS: usize = 8;
+pub const ROM_WORDS: usize = 8;
+/// Where a ROM row holds its name: offset, length, reason, width.
+pub const ROM_NAME: usize = 4;
+pub const ROM_NAME_REASON: usize = 6;
 
 pub fn runtime(record: &[u8], ram_base: u32, words: &mut [u32; RUNTIME_WORDS]) -> u32 {
     unsafe { onerom_runtime(record.as_ptr(), record.len(), ram_base, words.as_mut_ptr()) }
 }
 
-pub fn string(image: &[u8], base: u32, pointer: u32, part: &mut [u32; 2]) -> u32 {
+pub fn string(image: &[u8], base: u32, pointer: u32, part: &mut [u32; PART_WORDS]) -> u32 {
     unsafe { onerom_string(image.as_ptr(), image.len(), base, pointer, part.as_mut_ptr()) }
 }
 

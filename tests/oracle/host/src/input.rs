@@ -4,7 +4,7 @@ use std::fmt;
 
 use crate::boards::{self, Buffers, Lending, Slack};
 use crate::calls::Call;
-use crate::ffi::{Address, Pins};
+use crate::ffi::{Address, Pins, ROM_WORDS, SET_WORDS};
 use crate::mangling::{Case, Subject};
 use crate::tally::{Difference, Tally};
 use crate::{runtime, shrink, strings};
@@ -128,8 +128,8 @@ fn plainer_cases(case: &Case) -> Vec<Case> {
     push(&|c| c.address = 0);
     push(&|c| c.levels = [0; 5]);
     push(&|c| c.served = 1);
-    push(&|c| c.sets.truncate(8));
-    push(&|c| c.roms.truncate(7));
+    push(&|c| c.sets.truncate(SET_WORDS));
+    push(&|c| c.roms.truncate(ROM_WORDS));
     for at in 0..16 {
         push(&|c| c.pins.addr[at] = 255);
     }

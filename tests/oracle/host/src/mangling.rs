@@ -4,7 +4,7 @@ use deku::prelude::*;
 use onerom_fw_parser::readers::{Window, block_on};
 use onerom_fw_parser::{Parser, SdrrCsSet, SdrrInfo, SdrrLogicalAddress, SdrrPins, SdrrRomType};
 
-use crate::ffi::{self, Pins, Rows};
+use crate::ffi::{self, Pins, ROM_WORDS, Rows, SET_WORDS};
 use crate::fixed::template;
 use crate::rng::Rng;
 use crate::rust::{Answer, Panic, ask, number_of};
@@ -54,11 +54,11 @@ pub fn rom_type(number: u32) -> Option<SdrrRomType> {
 
 /// Document 01's 4, right after 71: a needed row isn't among those lent, or a needed type is above 33.
 pub fn lacks_rows(rows: Rows<'_>) -> bool {
-    if rows.sets.len() < 8 {
+    if rows.sets.len() < SET_WORDS {
         return true;
     }
     let (first, count) = (rows.sets[2] as usize, rows.sets[3]);
-    count != 0 && (7 * first + 7 > rows.roms.len() || rows.roms[7 * first] > 33)
+    count != 0 && (ROM_WORDS * (first + 1) > rows.roms.len() || rows.roms[ROM_WORDS * first] > 33)
 }
 
 /// The number of a panic of `mangle_address`, each under its own condition.
@@ -152,7 +152,7 @@ impl Subject {
             set.rom_count = count.min(255) as u8;
             let mut rom = set.roms.pop().expect("kept");
             if count != 0 {
-                kind = rom_type(case.roms[7 * first]);
+                kind = rom_type(case.roms[ROM_WORDS * first]);
                 rom.rom_type = kind.expect("at most 33");
             }
             set.roms.push(rom);
@@ -293,7 +293,7 @@ pub fn levels(rng: &mut Rng) -> [u8; 5] {
 
 fn case() -> Case {
     let pins = Pins { number: 0, rom_pins: 24, data: [0, 1, 2, 3, 4, 5, 6, 7], addr: [255; 16], control: [255; 7] };
-    Case { pins, served: 1, sets: vec![0; 8], roms: vec![0; 7], address: 0, levels: [0; 5] }
+    Case { pins, served: 1, sets: vec![0; SET_WORDS], roms: vec![0; ROM_WORDS], address: 0, levels: [0; 5] }
 }
 
 fn random_case(rng: &mut Rng, c: &mut Case) {
@@ -302,12 +302,12 @@ fn random_case(rng: &mut Rng, c: &mut Case) {
     c.served = if rng.once_in(64) { 0 } else { rng.pick(&[1, 2, 255, u32::MAX]) };
     let first = if rng.once_in(4) { rng.below(4) } else { 0 };
     c.sets.clear();
-    c.sets.resize(8 * rng.between(1, 2), 7);
+    c.sets.resize(SET_WORDS * rng.between(1, 2), 7);
     c.sets[2] = first as u32;
     c.sets[3] = if rng.once_in(16) { rng.pick(&[0, 0, 255, 256, u32::MAX]) } else { rng.pick(&[1, 1, 2, 3, 4]) };
     c.roms.clear();
-    c.roms.resize(7 * (first + rng.between(1, 2)), 3);
-    c.roms[7 * first] = if rng.once_in(4) { rng.below(36) as u32 } else { rng.pick(MANGLED) as u32 };
+    c.roms.resize(ROM_WORDS * (first + rng.between(1, 2)), 3);
+    c.roms[ROM_WORDS * first] = if rng.once_in(4) { rng.below(36) as u32 } else { rng.pick(MANGLED) as u32 };
     if rng.once_in(64) {
         let left = rng.below(c.sets.len() + 1);
         c.sets.truncate(left);

@@ -3,11 +3,12 @@
 use onerom_fw_parser::readers::{self, Header, Logged, Tried, Window, block_on};
 use onerom_fw_parser::{McuLine, Parser, SdrrExtraInfo, SdrrInfo, SdrrPins, SdrrRomSet};
 
+use crate::ffi::{ROM_NAME, ROM_WORDS, SET_WORDS};
 use crate::image::{CS0_BASE, INFO_OFFSET};
 use crate::reads::{RomSeen, SetSeen, Stop, Terms, sets_seen, walk_reads};
 use crate::report::{ExtraInfo, Fields, NOT_LOOKED_FOR, PinsItem, Report};
 use crate::rust::{Answer, Panic, ask, number_of};
-use crate::strings::{Part, part_of, string_top};
+use crate::strings::{Part, part_of, refused_part, string_top};
 use crate::tally::{Difference, Rule, Tally, differ};
 
 const HEADER_TEXTS: &[(&str, u32)] = &[
@@ -185,7 +186,7 @@ fn string_part(what: &str, answer: &Answer<String>, image: &[u8], base: u32, poi
     if let Answer::Panicked(p) = answer {
         if let Some(number) = string_top(p, image, base, pointer) {
             tally.rule(Rule::StringTop);
-            return Ok([number, 0, 0]);
+            return Ok(refused_part(number));
         }
     }
     part_of(answer, image, base, pointer).map_or_else(|| unknown(what, answer), Ok)
@@ -218,19 +219,25 @@ fn pins_item(answer: &Answer<SdrrPins>) -> Asked<PinsItem> {
     }
 }
 
-/// The name's words: offset, length, reason.
-fn name_words(filename: Option<&String>, rom: &RomSeen, image: &[u8], base: u32) -> Asked<[u32; 3]> {
+/// The name's words of a ROM row: offset, length, reason, width.
+type NameWords = [u32; ROM_WORDS - ROM_NAME];
+
+fn no_name(reason: u32) -> NameWords {
+    [0, 0, reason, 0]
+}
+
+fn name_words(filename: Option<&String>, rom: &RomSeen, image: &[u8], base: u32) -> Asked<NameWords> {
     let pointer = rom.name_ptr;
     match filename {
         Some(s) => match part_of(&Answer::Gave(s.clone()), image, base, pointer) {
-            Some([_, offset, length]) => Ok([offset, length, 0]),
+            Some([_, offset, length, width]) => Ok([offset, length, 0, width]),
             None => unknown("a name", (s, pointer)),
         },
-        None if pointer < base || pointer == u32::MAX => Ok([0, 0, 1]),
+        None if pointer < base || pointer == u32::MAX => Ok(no_name(1)),
         None => {
             let answer = ask(|| readers::name(&mut Window { image, base }, pointer));
             match part_of(&answer, image, base, pointer) {
-                Some([number, _, _]) if number != 0 => Ok([0, 0, number]),
+                Some([number, ..]) if number != 0 => Ok(no_name(number)),
                 _ => unknown("a name that the opening left out", answer),
             }
         }
@@ -251,13 +258,13 @@ fn blocks_agree(set: &SdrrRomSet, seen: &SetSeen, image: &[u8], base: u32) -> bo
 }
 
 fn rows(sets: &[SdrrRomSet], seen: &[SetSeen], image: &[u8], base: u32) -> Asked<Rows> {
-    let (mut set_rows, mut rom_rows) = (Vec::with_capacity(8 * sets.len()), Vec::new());
+    let (mut set_rows, mut rom_rows) = (Vec::with_capacity(SET_WORDS * sets.len()), Vec::new());
     for (set, seen) in sets.iter().zip(seen) {
         let roms = set.rom_count as usize;
         if set.roms.len() != roms || seen.roms.len() != roms || !blocks_agree(set, seen, image, base) {
             return unknown("a set", set);
         }
-        let first = (rom_rows.len() / 7) as u32;
+        let first = (rom_rows.len() / ROM_WORDS) as u32;
         let (serve, state) = (set.serve as u32, set.multi_rom_cs1_state as u32);
         set_rows.extend_from_slice(&[set.data_ptr, set.size, first, roms as u32, serve, state, seen.config, seen.overrides]);
         for (rom, seen) in set.roms.iter().zip(&seen.roms) {
@@ -277,9 +284,9 @@ fn sets_item(mut w: Walked, image: &[u8], flash_base: u32, tally: &mut Tally) ->
         match (&w.sets, stop) {
             (Answer::Gave(sets), None) if sets.len() == seen.len() && sets.len() == count as usize => {
                 let (set_rows, mut rom_rows) = rows(sets, &seen, image, w.terms.base)?;
-                for (row, rom) in rom_rows.chunks_mut(7).zip(seen.iter().flat_map(|s| &s.roms)) {
+                for (row, rom) in rom_rows.chunks_mut(ROM_WORDS).zip(seen.iter().flat_map(|s| &s.roms)) {
                     if let Some(i) = w.hidden.iter().position(|info| *info == rom.info) {
-                        row[4..7].copy_from_slice(&[0, 0, numbers[i]]);
+                        row[ROM_NAME..].copy_from_slice(&no_name(numbers[i]));
                     }
                 }
                 return Ok(([0, count, count], (set_rows, rom_rows)));

@@ -3,7 +3,7 @@
 use onerom_fw_parser::readers::Header;
 use onerom_fw_parser::{SdrrExtraInfo, SdrrPins};
 
-use crate::strings::Part;
+use crate::strings::{Part, refused_part};
 
 pub const NOT_LOOKED_FOR: u32 = u32::MAX;
 
@@ -121,8 +121,8 @@ impl Report {
                 counting: false,
                 boot_config: [0; 4],
             },
-            build_date: [0; 3],
-            hw_rev: [0; 3],
+            build_date: refused_part(0),
+            hw_rev: refused_part(0),
             extra: ExtraInfo::refused(0),
             metadata: NOT_LOOKED_FOR,
             sets: [0; 3],

@@ -2,14 +2,14 @@
 //!
 //! Inputs: a letter for the kind, numbers of eight hexadecimal digits, bytes in hexadecimal. Answers: decimal.
 //!   r RAM-base record                  the runtime record: number, and its words where accepted
-//!   S base pointer image               a string: number, offset, length
+//!   S base pointer image               a string: number, offset, length, width
 //!   g pins-number served set-words rom-words first count type address levels pins      mangling: number, value
 //!   d pins-number byte data-pins       demangling: number, value
 //!   o flash-base CS0-base info-offset set-words rom-words image      the opening: number; the report; set rows; ROM rows
 //!   c kind set address levels length count      a call on the board of the last line `o`. size, same: number, value; data, raw, raw-raw,
 //!                                      logical, logical-raw: number, bytes in hexadecimal (`-` for none), served count
-//! Levels have a digit each, CS1 the lowest: 0 low, 1 high, 2 not given. The report's words are document 01's in order, a word each; metadata
-//! that is not looked for is 256.
+//! Levels have a digit each, CS1 the lowest: 0 low, 1 high, 2 not given. The report's words are document 01's in order, a word each; a text of
+//! it is its number, offset, length and width; metadata that is not looked for is 256.
 
 use crate::board;
 use crate::boards::{self, Both, Buffers, Lending};
@@ -74,12 +74,14 @@ fn texts(rng: &mut Rng, tally: &mut Tally) -> Compared {
     let mut wanted = Wanted::new(3);
     strings::run(rng, false, 3000, &mut |kind, image, base, pointer| {
         strings::compare(image, base, pointer, tally)?;
-        let mut part = [0; 2];
+        let mut part = [0; ffi::PART_WORDS];
         let number = ffi::string(image, base, pointer, &mut part);
+        let [offset, length, width] = part;
         // long images where nothing shorter would do
-        let short = image.len() <= 130 || number == 20 || part[1] > 1000;
-        if short && wanted.takes(&[(kind, number), ("length", part[1] / 32), ("lead", image.first().map_or(0, |b| *b as u32 / 4))]) {
-            line("S", &[base, pointer], image, &[number, part[0], part[1]]);
+        let short = image.len() <= 130 || number == 20 || length > 1000;
+        let lead = image.first().map_or(0, |b| *b as u32 / 4);
+        if short && wanted.takes(&[(kind, number), ("length", length / 32), ("lead", lead), ("bytes above the width", (length - width).min(4))]) {
+            line("S", &[base, pointer], image, &[number, offset, length, width]);
         }
         Ok(())
     })
@@ -101,7 +103,7 @@ fn mangles(rng: &mut Rng, tally: &mut Tally, subject: &mut Subject) -> Compared 
         let number = ffi::mangle(&case.pins, case.rows(), case.address, &case.levels, &mut value);
         let word = |rows: &[u32], at: usize| rows.get(at).copied().unwrap_or(0);
         let (first, count) = (word(&case.sets, 2), word(&case.sets, 3));
-        let rom_type = word(&case.roms, 7 * first as usize);
+        let rom_type = word(&case.roms, ffi::ROM_WORDS * first as usize);
         // the list gives rows by their lengths and the words that count
         if kind == "mangles: random" && wanted.takes(&[("number", number), ("type", 100 * u32::from(number == 0) + rom_type)]) {
             let (served, words) = (case.served, (case.sets.len() as u32, case.roms.len() as u32));
@@ -223,7 +225,7 @@ fn one_board(rng: &mut Rng, board: &Board, wanted: &mut Wanted, buffers: &mut Bu
         ("version", 100 * r.fields.version[1] as u32 + r.fields.version[2].min(2) as u32),
         ("line", r.fields.line),
     ];
-    outcomes.extend(both.opened.rom_rows.chunks(7).map(|row| ("name", row[6])));
+    outcomes.extend(both.opened.rom_rows.chunks(ffi::ROM_WORDS).map(|row| ("name", row[ffi::ROM_NAME_REASON])));
     let mut lendings = Vec::new();
     for _ in 0..8 {
         // the whole rows: the list says nothing of rows that are cut

@@ -2,7 +2,7 @@
 
 use onerom_fw_parser::readers::{self, Window};
 
-use crate::ffi;
+use crate::ffi::{self, PART_WORDS};
 use crate::rng::Rng;
 use crate::rust::{Answer, Panic, ask, number_of};
 use crate::tally::{Compared, Rule, Tally, differ, same};
@@ -31,8 +31,13 @@ pub fn string_top(panic: &Panic, image: &[u8], base: u32, pointer: u32) -> Optio
     (overflows && no_nul).then_some(if left == 1024 { 20 } else { 2 })
 }
 
-/// A string as the report and the rows show it: number, offset, length.
-pub type Part = [u32; 3];
+/// A string as the report and the rows show it: number, offset, length, width.
+pub type Part = [u32; 4];
+
+/// A refused string shows its number alone.
+pub fn refused_part(number: u32) -> Part {
+    [number, 0, 0, 0]
+}
 
 /// What the Rust's answer is worth here.
 pub fn part_of(answer: &Answer<String>, image: &[u8], base: u32, pointer: u32) -> Option<Part> {
@@ -40,19 +45,19 @@ pub fn part_of(answer: &Answer<String>, image: &[u8], base: u32, pointer: u32) -
         Answer::Gave(s) => {
             let offset = pointer.checked_sub(base)?;
             let part = image.get(offset as usize..offset as usize + s.len())?;
-            (part == s.as_bytes()).then_some([0, offset, s.len() as u32])
+            (part == s.as_bytes()).then_some([0, offset, s.len() as u32, s.chars().count() as u32])
         }
-        Answer::Refused(text) => number_of(text, TEXTS).map(|number| [number, 0, 0]),
+        Answer::Refused(text) => number_of(text, TEXTS).map(refused_part),
         Answer::Panicked(_) => None,
     }
 }
 
 pub fn compare(image: &[u8], base: u32, pointer: u32, tally: &mut Tally) -> Compared {
-    let mut part = [LENT; 2];
+    let mut part = [LENT; PART_WORDS];
     let number = ffi::string(image, base, pointer, &mut part);
     if is_beyond(base, image) {
         tally.rule(Rule::WindowCheck);
-        return same("a string", (number, part), (1, [LENT; 2]));
+        return same("a string", (number, part), (1, [LENT; PART_WORDS]));
     }
     for (what, reader) in [("a string (lib.rs)", readers::string as fn(&mut Window<'_>, u32) -> _), ("a string (parsing.rs)", readers::name)] {
         let answer = ask(|| reader(&mut Window { image, base }, pointer));
@@ -60,7 +65,7 @@ pub fn compare(image: &[u8], base: u32, pointer: u32, tally: &mut Tally) -> Comp
             Answer::Panicked(p) => match string_top(p, image, base, pointer) {
                 Some(number) => {
                     tally.rule(Rule::StringTop);
-                    [number, 0, 0]
+                    refused_part(number)
                 }
                 None => return differ(what, (number, part), answer),
             },
@@ -69,8 +74,9 @@ pub fn compare(image: &[u8], base: u32, pointer: u32, tally: &mut Tally) -> Comp
                 None => return differ(what, (number, part), answer),
             },
         };
-        let left = if rust[0] == 0 { [rust[1], rust[2]] } else { [LENT; 2] };
-        same(what, (number, part), (rust[0], left))?;
+        let [rust_number, offset, length, width] = rust;
+        let left = if rust_number == 0 { [offset, length, width] } else { [LENT; PART_WORDS] };
+        same(what, (number, part), (rust_number, left))?;
     }
     tally.number("string", number);
     Ok(())

@@ -4,7 +4,7 @@
 use std::hint::black_box;
 use std::time::Instant;
 
-use host::ffi::{self, COpening, Lent, Rows};
+use host::ffi::{self, COpening, Lent, ROM_NAME, ROM_WORDS, Rows, SET_WORDS};
 use host::fixed::{measured, without_names};
 use host::image::{Board, CS0_BASE, PINS_PTR};
 use host::rng::Rng;
@@ -111,17 +111,19 @@ struct Opened {
 fn open(board: Board) -> Opened {
     let info = rust_opens(&board);
     let all: Vec<_> = info.rom_sets.iter().flat_map(|s| &s.roms).collect();
-    let (mut sets, mut roms) = (vec![0; 8 * info.rom_sets.len()], vec![0; 7 * all.len()]);
+    let (mut sets, mut roms) = (vec![0; SET_WORDS * info.rom_sets.len()], vec![0; ROM_WORDS * all.len()]);
     let ours = ffi::open(&board.image, board.flash_base, &mut sets, &mut roms);
     assert!(ours.number == 0 && ours.report.served() as usize == info.rom_sets.len(), "both open it");
     let mut first = 0;
-    for (row, set) in sets.chunks(8).zip(&info.rom_sets) {
+    for (row, set) in sets.chunks(SET_WORDS).zip(&info.rom_sets) {
         assert!(row[2] as usize == first && row[3] as usize == set.roms.len(), "both find its ROMs");
         first += set.roms.len();
     }
-    for (row, rom) in roms.chunks(7).zip(all) {
-        let name = (row[6] == 0).then(|| &board.image[row[4] as usize..(row[4] + row[5]) as usize]);
+    for (row, rom) in roms.chunks(ROM_WORDS).zip(all) {
+        let [offset, length, reason, width] = row[ROM_NAME..] else { unreachable!("four words") };
+        let name = (reason == 0).then(|| &board.image[offset as usize..(offset + length) as usize]);
         assert!(rom.filename.as_deref().map(str::as_bytes) == name, "both find its name");
+        assert!(rom.filename.as_deref().map_or(0, |s| s.chars().count()) == width as usize, "both find its width");
     }
     Opened { board, ours, sets, roms, info }
 }

@@ -3,7 +3,7 @@ use Rattle.std.proofs.Common.{ℕ, List, length, ◌≡◌, refl}
 use lib.Dec.{T}
 use Rattle.utf8.specs.Utf8.{classOf, ClassTable}
 use Rattle.utf8.proofs.Table.{obeys, at-place}
-use Rattle.utf8.proofs.is_utf8.Goals as goal
+use Rattle.utf8.proofs.code_points.Goals as goal
 
 class-table : (table : List ℕ) → length table ≡ 256 → T (obeys classOf 0 table) → ClassTable table
 class-table table e t = record { rule = λ b h. at-place classOf table t b (rw e h) }

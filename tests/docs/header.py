@@ -78,6 +78,8 @@ def main():
         bad += differences(function, held, cases)
     for name, width in (("SET_WORDS", "setRowLength"), ("ROM_WORDS", "romRowLength")):
         bad += differences(width, {name: c.get(name)}, dict((name, int(n)) for n in re.findall(r"(?m)^%s = (\d+)$" % width, specs)))
+    words = re.search(r"pub const PART_WORDS: usize = (\d+);", text("crates/text/src/lib.rt"))
+    bad += differences("PART_WORDS of text", {"PART_WORDS": c.get("PART_WORDS")}, {"PART_WORDS": words and int(words.group(1))})
     bad += differences("the Rust wrapper", {k: v for k, v in c.items() if k.startswith(IN_RUST)}, r)
     c_words = {c.get(name): words for name, words in re.findall(r'case ONEROM_(\w+): return "(.*)";', header)}
     r_words = {r.get(name): words for name, words in re.findall(r'(?m)^ {8}(\w\w+) => "(.*)",$', rust)}

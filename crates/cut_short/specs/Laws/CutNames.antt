@@ -1,5 +1,6 @@
--- Document 02, wish 3: a cut board shows a name's width only with the name itself. Each ROM row of a cut image that opens is ended, with offset,
--- length and width 0, or it has all four of the name's words as the whole's row has them. Over the ROM rows as the openings leave them.
+-- Document 02, wish 3: a cut board shows a name's width only with the name itself. Each ROM row of a cut image that opens is ended, or it has all four
+-- of the name's words as the whole's row has them. (Ended, its other words are 0: `names-told` in fw_parser/Laws/Strings, of every image that opens.)
+-- Over the ROM rows as the openings leave them.
 -- Assumes nothing.
 use Rattle.std.specs.Prelude.{ℕ, ◌<◌, ◌≡◌, ◌⊎◌, List, length, take, drop}
 use Rattle.std.proofs.Common.{sym, ap, ◌∙◌, inl, inr, ⊎_elim}
@@ -10,7 +11,6 @@ use Rattle.walk.specs.Rows.{romRows}
 use Rattle.walk.specs.Laws.NameWords.{NameWords, rows-words}
 use Rattle.window.specs.declared.Settings.{Settings}
 use Rattle.fw_parser.specs.Laws.Promises.{replied, romsAfter, Accepted, accepted-changes-rows}
-use Rattle.fw_parser.specs.Laws.Strings.{NameTold, names-told}
 use Rattle.cut_short.specs.Shown.{nameOf, Kept}
 use Rattle.cut_short.specs.Laws.Promises.{cut-short}
 
@@ -51,7 +51,3 @@ module _ (s : Settings) (sets roms x : List ℕ) (k : ℕ) (whole : (replied s s
       rw w.opens (rows-words (romsOf w.listed) w.names (drop (length (romRows (romsOf w.listed) w.names)) roms) row (rw w.named at e.0)) in
       inr (same-name (romsAfter s sets roms (take k x)) (romsAfter s sets roms x) row v u e.1))
       (kept.each-name row l).1
-
-  -- a name that the cut image does not show has no width: `zeros`
-  pub cut-names-told : (row : ℕ) → row < length (romsOf c.listed) → NameTold (take k x) (romsAfter s sets roms (take k x)) row
-  cut-names-told row l = names-told s sets roms (take k x) cut row l

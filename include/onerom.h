@@ -5,13 +5,14 @@
  * A refused call changes no byte and no word of what it is lent.
  *
  * NULL      image, record, buffer, set_rows and rom_rows may be NULL where the length that goes with them is 0, and only there.
- *           words, part, addr, control, data, levels, count and value may never be NULL, whatever the call answers: levels neither
- *           where the address is not logical.
+ *           words, part, addr, control, data, levels, counts and value may never be NULL, whatever the call answers: levels neither
+ *           where the address is not logical, nor counts where there is no such job.
  * Aligned   each pointer as its type wants it: those to uint32_t at a multiple of 4.
  * Overlap   what one call is lent may not overlap.
  * Threads   the library keeps nothing between calls and has no memory of its own. Calls may run at the same time as long as none of
  *           them writes what another is lent: threads may share an image, a report and rows that are no longer written; each has its
- *           own count, value and buffer.
+ *           own counts, value and buffer. A ROM read writes one of the eight counts: no two threads may lend the same eight at once,
+ *           not for different jobs either.
  * Padding   the structs have bytes between their fields, and these hold anything. Compare reports field by field, never by memcmp. */
 #ifndef ONEROM_H
 #define ONEROM_H
@@ -21,8 +22,9 @@
 
 /* The header's version. The major number goes up where a program that uses this header may have to change, the minor one where
  * something is added. ONEROM_VERSION puts both in one number, for #if.
- * 2.0: a ROM row has eight words, a string's part three, and a report's text its width. */
-#define ONEROM_VERSION_MAJOR 2
+ * 2.0: a ROM row has eight words, a string's part three, and a report's text its width.
+ * 3.0: a ROM read has a job, and is lent a count for each of the eight jobs in place of the one. */
+#define ONEROM_VERSION_MAJOR 3
 #define ONEROM_VERSION_MINOR 0
 #define ONEROM_VERSION (ONEROM_VERSION_MAJOR * 1000 + ONEROM_VERSION_MINOR)
 
@@ -92,7 +94,8 @@ enum onerom_number {
 
     ONEROM_REFUSED_NO_SUCH_SET = 80,
     ONEROM_REFUSED_PAST_SET = 81, /* offset plus length above the set's size */
-    ONEROM_REFUSED_COUNT = 82     /* the served count would pass 4,294,967,295 */
+    ONEROM_REFUSED_COUNT = 82,    /* the job's count would pass 4,294,967,295 */
+    ONEROM_REFUSED_JOB = 83       /* job number 8 or more */
 };
 
 /* A number in plain words. The reason of a ROM's name is such a number too, but for 1, ONEROM_NO_NAME. */
@@ -136,6 +139,7 @@ static inline const char *onerom_reason(uint32_t number)
     case ONEROM_REFUSED_NO_SUCH_SET: return "there is no such set";
     case ONEROM_REFUSED_PAST_SET: return "the read goes past the set's size";
     case ONEROM_REFUSED_COUNT: return "the count of bytes served would pass 4,294,967,295";
+    case ONEROM_REFUSED_JOB: return "there is no such job";
     default: return "no refusal has this number";
     }
 }
@@ -518,7 +522,7 @@ struct onerom_opening onerom_open(const uint8_t *image, size_t image_len, uint32
  * item and the sets served, and by nothing else of it. 4: a needed row isn't among those lent, or a needed type is above 33. A row is lent
  * where all its words are; of a ROM row the calls look at the type alone. */
 
-/* The size of a set. 80: no such set. 4. */
+/* The size of a set. It is no ROM read: it has no job, and counts nothing. 80: no such set. 4. */
 uint32_t onerom_get_rom_set_size(uint32_t served, const uint32_t *set_rows, size_t set_words, uint32_t set, uint32_t *value);
 
 /* Whether two sets are the same: 1 exactly if size, ROM count, serve and every type in order agree, otherwise 0.
@@ -526,14 +530,30 @@ uint32_t onerom_get_rom_set_size(uint32_t served, const uint32_t *set_rows, size
 uint32_t onerom_same_set(uint32_t served, const uint32_t *set_rows, size_t set_words, const uint32_t *rom_rows,
                          size_t rom_words, uint32_t a, uint32_t b, uint32_t *value);
 
+/* Jobs. All calls that follow are ROM reads. Each is made for one of eight jobs, 0 to 7, and is lent the counts of all eight.
+ *
+ * job      the job that reads
+ * counts   ONEROM_JOBS words, one for each job: the sum of the lengths of its accepted reads since the opening; the length of a byte is 1. At the
+ *          opening all are 0: start them so, and lend the same eight to each read of the board.
+ *
+ * 83: the job is 8 or more. It comes after 1 and before all else. 82 looks at the job's own count, and at no other.
+ *
+ * An accepted read adds its length to its job's count; the other seven stay as they are. A refused one, by whatever number, changes no count, no
+ * byte of a buffer and no value.
+ *
+ * Jobs do not disturb each other. Whatever the other jobs read, a job gets the replies and the count that its own calls, in their order, would
+ * have had by themselves. */
+#define ONEROM_JOBS 8
+
 /* Bytes of a set as stored, from an offset on, as many as the buffer holds.
  *
- * count    the served count: the sum of accepted lengths since the opening. Start it at 0 and lend it to each read.
+ * job, counts   as said above: the length is the buffer's
  *
- * 1. 80: no such set. 4. 81: offset plus length above set size. 2: ended. 82: the served count would pass 4,294,967,295. */
+ * 1. 83: no such job. 80: no such set. 4. 81: offset plus length above set size. 2: ended. 82: the job's count would pass 4,294,967,295; a read
+ * of no bytes is never refused with it. Refused, it leaves the buffer and all counts as they were. */
 uint32_t onerom_read_rom_set_data(const uint8_t *image, size_t image_len, uint32_t flash_base, uint32_t cs0_base,
                                   struct onerom_report report, const uint32_t *set_rows, size_t set_words, uint32_t set,
-                                  uint32_t offset, uint8_t *buffer, size_t buffer_len, uint32_t *count);
+                                  uint32_t offset, uint8_t *buffer, size_t buffer_len, uint32_t job, uint32_t counts[ONEROM_JOBS]);
 
 /* One byte of a set as stored (raw), or as it is served (demangled).
  *
@@ -541,33 +561,38 @@ uint32_t onerom_read_rom_set_data(const uint8_t *image, size_t image_len, uint32
  * another than the one that the set serves at the address. So the Rust reads, and so were tables made that are already sold: for those take
  * this one. For what a set's socket sees take onerom_read_rom_byte_own.
  *
- * logical  1: address is logical and is mangled with its levels, as by onerom_mangle. Any other: address is the byte's offset.
- * levels   as in enum onerom_level; lent for every address, looked at for a logical one
+ * logical       1: address is logical and is mangled with its levels, as by onerom_mangle. Any other: address is the byte's offset.
+ * levels        as in enum onerom_level; lent for every address, looked at for a logical one
+ * job, counts   as said above: one more where the byte is accepted
+ * value         the byte, written where it is accepted
  *
- * 1. A logical address: 70, 71, 4, 72 to 78. Then 80, 4, 81, 2, 82. Demangled: 70, 79. */
+ * 1. 83: no such job. A logical address: 70, 71, 4, 72 to 78. Then 80, 4, 81, 2, 82. Demangled: 70, 79. Refused, by 79 too, it leaves the value
+ * and all counts as they were. */
 uint32_t onerom_read_rom_byte_raw(const uint8_t *image, size_t image_len, uint32_t flash_base, uint32_t cs0_base,
                                   struct onerom_report report, const uint32_t *set_rows, size_t set_words,
                                   const uint32_t *rom_rows, size_t rom_words, uint32_t set, uint8_t logical, uint32_t address,
-                                  const uint8_t levels[ONEROM_LEVELS], uint32_t *count, uint8_t *value);
+                                  const uint8_t levels[ONEROM_LEVELS], uint32_t job, uint32_t counts[ONEROM_JOBS], uint8_t *value);
 
 uint32_t onerom_read_rom_byte_demangled(const uint8_t *image, size_t image_len, uint32_t flash_base, uint32_t cs0_base,
                                         struct onerom_report report, const uint32_t *set_rows, size_t set_words,
                                         const uint32_t *rom_rows, size_t rom_words, uint32_t set, uint8_t logical,
-                                        uint32_t address, const uint8_t levels[ONEROM_LEVELS], uint32_t *count, uint8_t *value);
+                                        uint32_t address, const uint8_t levels[ONEROM_LEVELS], uint32_t job,
+                                        uint32_t counts[ONEROM_JOBS], uint8_t *value);
 
 /* One byte of a set as its socket sees it: at a logical address, demangled.
  *
  * IT GOES BY THE NAMED SET's OWN ROM COUNT AND FIRST ROM TYPE. Take it for what a set's socket sees; take the two reads above for what must
  * be as the Rust reads it, or as it stands in tables already sold.
  *
- * set      the set that is read, and that governs
- * address  a logical one, mangled with its levels as by onerom_mangle, but by the set's own ROMs
- * levels   as in enum onerom_level; X1 and X2 count where the set has several ROMs
- * count    the served count, as for onerom_read_rom_set_data: one more where the byte is accepted
- * value    the byte, written where it is accepted
+ * set           the set that is read, and that governs
+ * address       a logical one, mangled with its levels as by onerom_mangle, but by the set's own ROMs
+ * levels        as in enum onerom_level; X1 and X2 count where the set has several ROMs
+ * job, counts   as said above: one more where the byte is accepted
+ * value         the byte, written where it is accepted
  *
  * In this order:
  *  1   either base plus image length exceeds 2^32
+ * 83   no such job: its number is 8 or more
  * 80   no such set
  *  4   the set's row isn't among those lent; or, unless the set has no ROM, its first ROM row isn't, or that row's type is above 33
  * 70   no pins
@@ -580,18 +605,18 @@ uint32_t onerom_read_rom_byte_demangled(const uint8_t *image, size_t image_len, 
  * 78   28C16
  * 81   the byte's offset is not below the set's size
  *  2   the byte is not within the image
- * 82   the served count would pass 4,294,967,295
+ * 82   the job's count would pass 4,294,967,295
  * 79   a data pin is at 8 or above
  * 72, 73 and 76 are judged after base-zero. 71 cannot come: without sets there is no such set. Rows of other sets, set 0's among them, are
- * not looked at.
+ * not looked at. Refused, it leaves the value and all counts as they were.
  *
- * On set 0 it accepts exactly where onerom_read_rom_byte_demangled accepts the same logical address, with the same byte and count. Where
- * that one answers 71, this one answers 80; where that one answers 70, this one answers 80 if no set is served, otherwise 4 if 4 applies,
- * otherwise 70. All other numbers are the same. */
+ * On set 0 it accepts exactly where onerom_read_rom_byte_demangled accepts the same logical address for the same job, with the same byte and
+ * counts. Where that one answers 71, this one answers 80; where that one answers 70, this one answers 80 if no set is served, otherwise 4 if 4
+ * applies, otherwise 70. All other numbers are the same. */
 uint32_t onerom_read_rom_byte_own(const uint8_t *image, size_t image_len, uint32_t flash_base, uint32_t cs0_base,
                                   struct onerom_report report, const uint32_t *set_rows, size_t set_words,
                                   const uint32_t *rom_rows, size_t rom_words, uint32_t set, uint32_t address,
-                                  const uint8_t levels[ONEROM_LEVELS], uint32_t *count, uint8_t *value);
+                                  const uint8_t levels[ONEROM_LEVELS], uint32_t job, uint32_t counts[ONEROM_JOBS], uint8_t *value);
 
 #ifdef __cplusplus
 }

@@ -15,4 +15,4 @@ for i, s in enumerate(board.sets):
     print("set %d: %d bytes, %s, %s (%d characters), starts %s, at its socket %s" % (i, s.size, roms, name, len(name), front, seen))
 for later, earlier in sorted(make.SAME.items(), key=lambda p: (p[1], p[0])):
     print("sets %d and %d are the same" % (earlier, later))
-print("%d bytes read" % (8 * len(board.sets)))
+print("%d bytes read as stored, %d at the sockets" % (4 * len(board.sets), 4 * len(board.sets)))

@@ -1,5 +1,5 @@
 /* Opens a dump of a board's flash, lists its sets, says which are the same, and reads the first bytes of each: as they are stored, and as its socket
- * sees them with every line low.
+ * sees them with every line low. Each of the two is a job, with a count of its own.
  *
  *     (cd crates/onerom && rt lib)
  *     cc -Iinclude examples/c/board.c crates/onerom/out/libonerom.a -o board && ./board DUMP */
@@ -17,6 +17,12 @@
 
 static uint32_t set_rows[SET_WORDS];
 static uint32_t rom_rows[ROM_WORDS];
+
+/* the jobs of this program */
+enum { STORED = 0, SEEN = 1 };
+
+/* how many bytes each job has read; all 0 at the opening */
+static uint32_t counts[ONEROM_JOBS];
 
 /* The whole file, which the caller frees; or NULL, and errno says why. */
 static uint8_t *load(const char *path, size_t *len)
@@ -110,13 +116,13 @@ static void print_same(uint32_t served)
 }
 
 /* The first bytes of a set as its socket sees them, by its own ROMs; answers the first refusal, if there is one. */
-static uint32_t at_socket(const uint8_t *image, size_t len, const struct onerom_opening *o, uint32_t set, uint8_t front[4], uint32_t *count)
+static uint32_t at_socket(const uint8_t *image, size_t len, const struct onerom_opening *o, uint32_t set, uint8_t front[4])
 {
     static const uint8_t low[ONEROM_LEVELS] = {ONEROM_LOW, ONEROM_LOW, ONEROM_LOW, ONEROM_LOW, ONEROM_LOW};
     uint32_t number = ONEROM_ACCEPTED;
     for (uint32_t address = 0; address < 4 && number == ONEROM_ACCEPTED; address++)
         number = onerom_read_rom_byte_own(image, len, ONEROM_FLASH_BASE, ONEROM_CS0_BASE, o->report, set_rows, SET_WORDS, rom_rows, ROM_WORDS, set,
-                                          address, low, count, &front[address]);
+                                          address, low, SEEN, counts, &front[address]);
     return number;
 }
 
@@ -129,17 +135,16 @@ static void print_read(uint32_t number, const char *what, const uint8_t front[4]
         printf("refused %" PRIu32 ": %s", number, onerom_reason(number));
 }
 
-/* Prints a line for each set, and answers how many bytes were read. */
-static uint32_t print_sets(const uint8_t *image, size_t len, const struct onerom_opening *o)
+/* A line for each set. */
+static void print_sets(const uint8_t *image, size_t len, const struct onerom_opening *o)
 {
-    uint32_t count = 0;
     for (uint32_t i = 0; i < o->report.rom_sets.served; i++) {
         const uint32_t *set = set_rows + i * ONEROM_SET_WORDS;
         const uint32_t roms = set[ONEROM_SET_ROM_COUNT];
         uint8_t front[4], seen[4];
         uint32_t number = onerom_read_rom_set_data(image, len, ONEROM_FLASH_BASE, ONEROM_CS0_BASE, o->report, set_rows, SET_WORDS, i, 0,
-                                                   front, sizeof front, &count);
-        uint32_t own = at_socket(image, len, o, i, seen, &count);
+                                                   front, sizeof front, STORED, counts);
+        uint32_t own = at_socket(image, len, o, i, seen);
         printf("set %" PRIu32 ": %" PRIu32 " bytes, %" PRIu32 " ROM%s, ", i, set[ONEROM_SET_SIZE], roms, roms == 1 ? "" : "s");
         print_name(image, set);
         printf(", ");
@@ -148,7 +153,6 @@ static uint32_t print_sets(const uint8_t *image, size_t len, const struct onerom
         print_read(own, "", seen);
         printf("\n");
     }
-    return count;
 }
 
 int main(int argc, char **argv)
@@ -173,9 +177,9 @@ int main(int argc, char **argv)
         return 1;
     }
     printf("firmware %u.%u.%u\n", o.report.header.major, o.report.header.minor, o.report.header.patch);
-    uint32_t count = print_sets(image, len, &o);
+    print_sets(image, len, &o);
     print_same(o.report.rom_sets.served);
-    printf("%" PRIu32 " bytes read\n", count);
+    printf("%" PRIu32 " bytes read as stored, %" PRIu32 " at the sockets\n", counts[STORED], counts[SEEN]);
     free(image);
     if (fflush(stdout) != 0 || ferror(stdout)) {
         fprintf(stderr, "the answer could not all be written\n");

@@ -1,5 +1,5 @@
 //! Opens a dump of a board's flash, lists its sets, says which are the same, and reads the first bytes of each: as they are stored, and as its socket
-//! sees them with every line low.
+//! sees them with every line low. Each of the two is a job, with a count of its own.
 //!
 //!     (cd crates/onerom && rt lib)
 //!     rustc --edition 2024 examples/rust/board.rs -L crates/onerom/out -l static=onerom -o board && ./board DUMP
@@ -8,6 +8,10 @@ mod onerom;
 
 use onerom::{Board, LEVELS, LOW, MAX_ROMS, Refused, SET_FIRST_ROM, SET_ROM_COUNT, SET_SIZE, Settings};
 use std::process::ExitCode;
+
+/// The jobs of this program.
+const STORED: u32 = 0;
+const SEEN: u32 = 1;
 
 /// Characters that a reader does not see, and that can change how the rest of a line looks.
 fn is_hidden(c: char) -> bool {
@@ -41,7 +45,7 @@ fn shown(text: &[u8]) -> String {
 fn at_socket(board: &mut Board, set: u32) -> Result<[u8; 4], Refused> {
     let mut front = [0; 4];
     for (address, byte) in (0..).zip(&mut front) {
-        *byte = board.read_rom_byte_own(set, address, &[LOW; LEVELS])?;
+        *byte = board.read_rom_byte_own(set, address, &[LOW; LEVELS], SEEN)?;
     }
     Ok(front)
 }
@@ -63,7 +67,7 @@ fn list(image: &[u8]) -> Result<(), Refused> {
     for i in 0..served {
         let row = board.set(i).expect("a served set has a row").to_vec();
         let mut front = [0; 4];
-        let read = board.read(i, 0, &mut front);
+        let read = board.read(i, 0, &mut front, STORED);
         let seen = at_socket(&mut board, i);
         let name = if row[SET_ROM_COUNT] == 0 { None } else { board.name(row[SET_FIRST_ROM]) };
         let name = name.map_or("(no name)".to_string(), |(name, width)| format!("{} ({})", shown(name.as_bytes()), characters(width)));
@@ -85,7 +89,8 @@ fn list(image: &[u8]) -> Result<(), Refused> {
             }
         }
     }
-    println!("{} bytes read", board.count);
+    let [stored, seen] = [STORED, SEEN].map(|job| board.counts[job as usize]);
+    println!("{stored} bytes read as stored, {seen} at the sockets");
     Ok(())
 }
 

@@ -144,6 +144,10 @@ pub const LEVELS: usize = 5;
 pub const LOW: u8 = 0;
 pub const HIGH: u8 = 1;
 
+// ---- jobs: a ROM read is for one of 0 to 7
+
+pub const JOBS: usize = 8;
+
 // ---- items, as `Report::items` lists them
 
 pub const ITEM_BUILD_DATE: usize = 0;
@@ -192,6 +196,7 @@ pub const REFUSED_DATA_PIN: u32 = 79;
 pub const REFUSED_NO_SUCH_SET: u32 = 80;
 pub const REFUSED_PAST_SET: u32 = 81;
 pub const REFUSED_COUNT: u32 = 82;
+pub const REFUSED_JOB: u32 = 83;
 
 /// A number in plain words. A name's reason is such a number too, but for `NO_NAME`.
 pub fn reason(number: u32) -> &'static str {
@@ -233,6 +238,7 @@ pub fn reason(number: u32) -> &'static str {
         REFUSED_NO_SUCH_SET => "there is no such set",
         REFUSED_PAST_SET => "the read goes past the set's size",
         REFUSED_COUNT => "the count of bytes served would pass 4,294,967,295",
+        REFUSED_JOB => "there is no such job",
         _ => "no refusal has this number",
     }
 }
@@ -399,7 +405,8 @@ unsafe extern "C" {
         offset: u32,
         buffer: *mut u8,
         buffer_len: usize,
-        count: *mut u32,
+        job: u32,
+        counts: *mut u32,
     ) -> u32;
     fn onerom_read_rom_byte_own(
         image: *const u8,
@@ -414,7 +421,8 @@ unsafe extern "C" {
         set: u32,
         address: u32,
         levels: *const u8,
-        count: *mut u32,
+        job: u32,
+        counts: *mut u32,
         value: *mut u8,
     ) -> u32;
 }
@@ -460,14 +468,15 @@ pub fn string(image: &[u8], base: u32, pointer: u32) -> Result<(&str, u32), Refu
     Ok((text.expect("an accepted string is UTF-8, and a part of the image"), part[PART_WIDTH]))
 }
 
-/// An opened board: the image, its report, its rows, and the served count.
+/// An opened board: the image, its report, its rows, and a count for each job.
 pub struct Board<'a> {
     image: &'a [u8],
     settings: Settings,
     pub report: Report,
     set_rows: Vec<u32>,
     rom_rows: Vec<u32>,
-    pub count: u32,
+    /// The bytes that each job has read: the sum of its accepted lengths since the opening.
+    pub counts: [u32; JOBS],
 }
 
 impl<'a> Board<'a> {
@@ -490,7 +499,7 @@ impl<'a> Board<'a> {
             )
         };
         accepted(opening.number)?;
-        Ok(Board { image, settings, report: opening.report, set_rows, rom_rows, count: 0 })
+        Ok(Board { image, settings, report: opening.report, set_rows, rom_rows, counts: [0; JOBS] })
     }
 
     /// The row of a set that is served.
@@ -533,8 +542,8 @@ impl<'a> Board<'a> {
         Ok(value == 1)
     }
 
-    /// Fills the buffer with a set's bytes from an offset on.
-    pub fn read(&mut self, set: u32, offset: u32, buffer: &mut [u8]) -> Result<(), Refused> {
+    /// Fills the buffer with a set's bytes from an offset on, for a job.
+    pub fn read(&mut self, set: u32, offset: u32, buffer: &mut [u8], job: u32) -> Result<(), Refused> {
         accepted(unsafe {
             onerom_read_rom_set_data(
                 self.image.as_ptr(),
@@ -548,13 +557,14 @@ impl<'a> Board<'a> {
                 offset,
                 buffer.as_mut_ptr(),
                 buffer.len(),
-                &mut self.count,
+                job,
+                self.counts.as_mut_ptr(),
             )
         })
     }
 
-    /// The byte that a set's socket sees at a logical address: the set's own ROM count and first type govern, whichever set it is.
-    pub fn read_rom_byte_own(&mut self, set: u32, address: u32, levels: &[u8; LEVELS]) -> Result<u8, Refused> {
+    /// The byte that a set's socket sees at a logical address, for a job: the set's own ROM count and first type govern, whichever set it is.
+    pub fn read_rom_byte_own(&mut self, set: u32, address: u32, levels: &[u8; LEVELS], job: u32) -> Result<u8, Refused> {
         let mut value = 0;
         accepted(unsafe {
             onerom_read_rom_byte_own(
@@ -570,7 +580,8 @@ impl<'a> Board<'a> {
                 set,
                 address,
                 levels.as_ptr(),
-                &mut self.count,
+                job,
+                self.counts.as_mut_ptr(),
                 &mut value,
             )
         })?;

@@ -1,5 +1,5 @@
 /* Calls the library from C: the starred cases, and each refusal. */
-#include "small.h"
+#include "counts.h"
 
 static const uint8_t R1[36] = {0x73, 0x64, 0x72, 0x72, 0x24, 0x01, 0x02, 0x01, 0x05, 0, 0, 0, 0, 0, 0, 0x20, 0, 0, 0x01, 0,
                                0, 0, 0, 0, 0x01, 0, 0x02, 0x0B, 0x96, 0, 0x2C, 0x01, 0x2C, 0x01, 0x01, 0x03};
@@ -237,47 +237,50 @@ static void names(void) {
 
 /* One byte by its address. */
 static uint32_t byte(const uint8_t *image, struct onerom_report r, int demangled, uint32_t set, uint8_t logical, uint32_t address,
-                     uint32_t *count, uint8_t *value) {
+                     uint8_t *value) {
     static const uint8_t low[5];
     *value = 77;
     return (demangled ? onerom_read_rom_byte_demangled : onerom_read_rom_byte_raw)(
-        image, 1552, FLASH, CS0, r, rows[0], SET_ROW, rows[1], ROM_ROW, set, logical, address, low, count, value);
+        image, 1552, FLASH, CS0, r, rows[0], SET_ROW, rows[1], ROM_ROW, set, logical, address, low, job, counts, value);
 }
 
 /* ROM data, the byte reads, size and same set on a board that stands at base. */
 static void reads(uint32_t line, uint32_t base) {
     uint8_t image[1552], buffer[5], b;
-    uint32_t count = 0, v = 77;
+    uint32_t v = 77;
+    count_from(0);
     small_board(image, line, base);
     struct onerom_report r = open_board(image, sizeof image, 16, 16).report;
     memset(buffer, 0xA5, 5);
-    expect(onerom_read_rom_set_data(image, 1552, FLASH, CS0, r, rows[0], SET_ROW, 0, 3, buffer, 4, &count) == 0 && count == 4, "ROM data");
+#define DATA(image_len, set_words, set, offset, buffer, length) \
+    onerom_read_rom_set_data(image, image_len, FLASH, CS0, r, rows[0], set_words, set, offset, buffer, length, job, counts)
+    expect(DATA(1552, SET_ROW, 0, 3, buffer, 4) == 0 && counted(4), "ROM data");
     expect(buffer[0] == 51 && buffer[3] == 102 && buffer[4] == 0xA5, "its bytes, and no byte after them");
     memset(buffer, 0xA5, 5);
-    expect(onerom_read_rom_set_data(image, 1552, FLASH, CS0, r, rows[0], SET_ROW, 0, 13, buffer, 4, &count) == 81 && count == 4, "81");
-    expect(onerom_read_rom_set_data(image, 1552, FLASH, CS0, r, rows[0], SET_ROW, 1, 0, buffer, 4, &count) == 80 && count == 4, "80");
-    expect(onerom_read_rom_set_data(image, 1552, FLASH, CS0, r, rows[0], SET_ROW - 1, 0, 0, buffer, 4, &count) == 4 && count == 4, "4, read");
-    expect(onerom_read_rom_set_data(image, 1551, FLASH, CS0, r, rows[0], SET_ROW, 0, 12, buffer, 4, &count) == 2 && count == 4, "2, read");
-    count = 4294967292u;
-    expect(onerom_read_rom_set_data(image, 1552, FLASH, CS0, r, rows[0], SET_ROW, 0, 0, buffer, 4, &count) == 82, "82");
-    expect(count == 4294967292u && buffer[0] == 0xA5, "82 counts and writes nothing");
-    expect(onerom_read_rom_set_data(image, 1552, FLASH, CS0, r, rows[0], SET_ROW, 0, 0, buffer, 3, &count) == 0 && count == 4294967295u, "up to 82");
-    expect(onerom_read_rom_set_data(image, 1552, FLASH, CS0, r, rows[0], SET_ROW, 0, 16, NULL, 0, &count) == 0, "no bytes");
-    count = 0;
-    expect(byte(image, r, 0, 0, 0, 5, &count, &b) == 0 && b == 85 && count == 1, "a raw byte");
-    expect(byte(image, r, 1, 0, 0, 5, &count, &b) == 0 && b == 170 && count == 2, "a byte, demangled");
-    expect(byte(image, r, 1, 0, 1, 5, &count, &b) == 0 && b == 170 && count == 3, "a logical address");
-    expect(byte(image, r, 1, 0, 1, 8192, &count, &b) == 77 && b == 77 && count == 3, "77 counts nothing");
+    expect(DATA(1552, SET_ROW, 0, 13, buffer, 4) == 81 && counted(4), "81");
+    expect(DATA(1552, SET_ROW, 1, 0, buffer, 4) == 80 && counted(4), "80");
+    expect(DATA(1552, SET_ROW - 1, 0, 0, buffer, 4) == 4 && counted(4), "4, read");
+    expect(DATA(1551, SET_ROW, 0, 12, buffer, 4) == 2 && counted(4), "2, read");
+    count_from(4294967292u);
+    expect(DATA(1552, SET_ROW, 0, 0, buffer, 4) == 82, "82");
+    expect(counted(4294967292u) && buffer[0] == 0xA5, "82 counts and writes nothing");
+    expect(DATA(1552, SET_ROW, 0, 0, buffer, 3) == 0 && counted(4294967295u), "up to 82");
+    expect(DATA(1552, SET_ROW, 0, 16, NULL, 0) == 0 && counted(4294967295u), "no bytes");
+    count_from(0);
+    expect(byte(image, r, 0, 0, 0, 5, &b) == 0 && b == 85 && counted(1), "a raw byte");
+    expect(byte(image, r, 1, 0, 0, 5, &b) == 0 && b == 170 && counted(2), "a byte, demangled");
+    expect(byte(image, r, 1, 0, 1, 5, &b) == 0 && b == 170 && counted(3), "a logical address");
+    expect(byte(image, r, 1, 0, 1, 8192, &b) == 77 && b == 77 && counted(3), "77 counts nothing");
     r.pins.data[0] = 8;
-    expect(byte(image, r, 1, 0, 0, 5, &count, &b) == 79 && b == 77 && count == 3, "79 counts nothing");
-    expect(byte(image, r, 0, 0, 0, 5, &count, &b) == 0 && count == 4, "a raw byte skips demangling");
+    expect(byte(image, r, 1, 0, 0, 5, &b) == 79 && b == 77 && counted(3), "79 counts nothing");
+    expect(byte(image, r, 0, 0, 0, 5, &b) == 0 && counted(4), "a raw byte skips demangling");
     expect(onerom_get_rom_set_size(1, rows[0], SET_ROW, 0, &v) == 0 && v == 16, "size");
     v = 77;
     expect(onerom_get_rom_set_size(1, rows[0], SET_ROW, 1, &v) == 80 && v == 77, "80, size");
     expect(onerom_same_set(1, rows[0], SET_ROW, rows[1], ROM_ROW, 0, 0, &v) == 0 && v == 1, "same set");
     rows[1][ONEROM_ROM_NAME_WIDTH] = 4294967295u;
     expect(onerom_same_set(1, rows[0], SET_ROW, rows[1], ROM_ROW, 0, 0, &v) == 0 && v == 1, "same set, whatever the name's width");
-    expect(byte(image, r, 0, 0, 1, 5, &count, &b) == 0 && b == 85, "a byte, whatever the name's width");
+    expect(byte(image, r, 0, 0, 1, 5, &b) == 0 && b == 85, "a byte, whatever the name's width");
     v = 77;
     expect(onerom_same_set(1, rows[0], SET_ROW, rows[1], ROM_ROW - 1, 0, 0, &v) == 4 && v == 77, "4, same set");
 }
@@ -286,18 +289,18 @@ static struct onerom_report own_report;
 static uint8_t own_image[1552];
 
 /* The byte that a set's socket sees at an address, with rows for two sets of a ROM each. */
-static uint32_t own(uint32_t set, uint32_t address, uint32_t *count, uint8_t *value) {
+static uint32_t own(uint32_t set, uint32_t address, uint8_t *value) {
     static const uint8_t low[ONEROM_LEVELS];
     *value = 77;
     return onerom_read_rom_byte_own(own_image, 1552, FLASH, CS0, own_report, rows[0], 2 * SET_ROW, rows[1], 2 * ROM_ROW, set, address,
-                                    low, count, value);
+                                    low, job, counts, value);
 }
 
-/* Refused with the number, count and value as they were. */
+/* Refused with the number, counts and value as they were. */
 static void own_refused(uint32_t number, uint32_t set, uint32_t address, const char *what) {
-    uint32_t count = 3;
     uint8_t b;
-    expect(own(set, address, &count, &b) == number && count == 3 && b == 77, what);
+    count_from(3);
+    expect(own(set, address, &b) == number && counted(3) && b == 77, what);
 }
 
 /* Two sets with the same 16 bytes; set 0's ROM is of a type that logical reads do not cover. */
@@ -313,13 +316,14 @@ static void own_board(uint32_t line, uint32_t base) {
 
 static void own_reads(uint32_t line, uint32_t base) {
     static const uint8_t cs1[ONEROM_LEVELS] = {ONEROM_HIGH};
-    uint32_t count = 0, *set = rows[0] + SET_ROW, *rom = rows[1] + ROM_ROW, kept[SET_ROW];
+    uint32_t *set = rows[0] + SET_ROW, *rom = rows[1] + ROM_ROW, kept[SET_ROW];
     uint8_t b;
     own_board(line, base);
-    expect(own(1, 5, &count, &b) == 0 && b == 170 && count == 1, "a byte by the set's own ROMs");
-    count = 4294967294u;
-    expect(own(1, 15, &count, &b) == 0 && b == 255 && count == 4294967295u, "the last byte, up to 82");
-    expect(own(1, 15, &count, &b) == 82 && b == 77 && count == 4294967295u, "82, own");
+    count_from(0);
+    expect(own(1, 5, &b) == 0 && b == 170 && counted(1), "a byte by the set's own ROMs");
+    count_from(4294967294u);
+    expect(own(1, 15, &b) == 0 && b == 255 && counted(4294967295u), "the last byte, up to 82");
+    expect(own(1, 15, &b) == 82 && b == 77 && counted(4294967295u), "82, own");
     own_refused(75, 0, 5, "set 0 by its own");
     own_refused(80, 2, 5, "80, own");
     own_refused(80, 4294967295u, 5, "80, own, the last number");
@@ -360,10 +364,11 @@ static void own_reads(uint32_t line, uint32_t base) {
     own_refused(80, 0, 5, "80, own: nothing is served");
 
     own_board(line, base);
-    count = 3;
+    count_from(3);
     b = 77;
-#define OWN(image_len, flash_base, cs0_base, set_words, rom_words) \
-    onerom_read_rom_byte_own(own_image, image_len, flash_base, cs0_base, own_report, rows[0], set_words, rows[1], rom_words, 1, 5, cs1, &count, &b)
+#define OWN(image_len, flash_base, cs0_base, set_words, rom_words)                                                                     \
+    onerom_read_rom_byte_own(own_image, image_len, flash_base, cs0_base, own_report, rows[0], set_words, rows[1], rom_words, 1, 5, cs1, job, \
+                             counts, &b)
     const size_t both_sets = 2 * SET_ROW, both_roms = 2 * ROM_ROW;
     expect(OWN(1552, 4294967295u, CS0, both_sets, both_roms) == 1 && OWN(1552, FLASH, 4294967295u, both_sets, both_roms) == 1,
            "1, own, looks at both bases");
@@ -373,12 +378,12 @@ static void own_reads(uint32_t line, uint32_t base) {
     rom[ONEROM_ROM_NAME_WIDTH] = 4294967295u;
     expect(OWN(1552, FLASH, CS0, both_sets, both_roms) == 81, "whatever the name's width");
     set[ONEROM_SET_SIZE] = 65536;
-    expect(OWN(1552, FLASH, CS0, both_sets, both_roms) == 2 && count == 3 && b == 77, "2, own, and nothing was written by any of these");
+    expect(OWN(1552, FLASH, CS0, both_sets, both_roms) == 2 && counted(3) && b == 77, "2, own, and nothing was written by any of these");
     set[ONEROM_SET_ROM_COUNT] = 0;
-    expect(onerom_read_rom_byte_own(NULL, 0, FLASH, CS0, own_report, rows[0], both_sets, NULL, 0, 1, 5, cs1, &count, &b) == 74,
+    expect(onerom_read_rom_byte_own(NULL, 0, FLASH, CS0, own_report, rows[0], both_sets, NULL, 0, 1, 5, cs1, job, counts, &b) == 74,
            "74, own, needs no ROM row");
-    expect(onerom_read_rom_byte_own(NULL, 0, FLASH, CS0, own_report, NULL, 0, NULL, 0, 1, 5, cs1, &count, &b) == 4, "4, own, no row at all");
-    expect(count == 3 && b == 77, "nor by these");
+    expect(onerom_read_rom_byte_own(NULL, 0, FLASH, CS0, own_report, NULL, 0, NULL, 0, 1, 5, cs1, job, counts, &b) == 4, "4, own, no row at all");
+    expect(counted(3) && b == 77, "nor by these");
 }
 
 int main(void) {
@@ -389,10 +394,12 @@ int main(void) {
     long_texts();
     opening();
     names();
-    reads(1, FLASH);
-    reads(5, CS0);
-    own_reads(1, FLASH);
-    own_reads(5, CS0);
+    for (job = 0; job < ONEROM_JOBS; job++) {
+        reads(1, FLASH);
+        reads(5, CS0);
+        own_reads(1, FLASH);
+        own_reads(5, CS0);
+    }
     if (!failed) printf("ok\n");
     return failed;
 }

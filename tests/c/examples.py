@@ -43,6 +43,8 @@ def counts(program, at):
     board = made.board_of([make.RomSet([], 64, 1), make.RomSet([make.Rom("jib.bin", make.ROM_2316)] * 2, 2048, 1)])
     status, out, err = run(program, put(at, "counts.img", bytes(board.image().bytes)))
     lines = [line for line in out.split("\n") if line.startswith("set ")]
+    # each job by its own count
+    same(out.rstrip("\n").split("\n")[-1], "8 bytes read as stored, 0 at the sockets", "what refused reads count")
     got = [line.rsplit(", starts ")[0] for line in lines]
     same((status, err, got), (0, "", ["set 0: 64 bytes, 0 ROMs, (no name)", "set 1: 2048 bytes, 2 ROMs, jib.bin (7 characters)"]), "ROMs are counted")
     # each set by its own ROMs: none, and two on a board that has no X1 and X2

@@ -1,5 +1,5 @@
 /* The constants of include/onerom.h, each beside its number in document 01 and, where a call can show it, beside what the call answers. */
-#include "small.h"
+#include "counts.h"
 
 #define CONSTANT(name, number) expect(name == (number), #name)
 /* A refusal: its name, its number, and a call or an item that is refused with it. */
@@ -232,14 +232,22 @@ static void types(void) {
 static void reads(void) {
     struct onerom_report r = opening(changed(0, 0)).report;
     uint8_t b, buffer[4];
-    uint32_t count = 0;
+    job = 6;
+    count_from(0);
     expect(onerom_get_rom_set_size(1, set_rows, SET_ROW, 0, &value) == 0 && value == 16, "size");
     REFUSED(ONEROM_REFUSED_NO_SUCH_SET, 80, onerom_get_rom_set_size(1, set_rows, SET_ROW, 1, &value));
     REFUSED(ONEROM_REFUSED_ROW, 4, onerom_get_rom_set_size(1, NULL, 0, 0, &value));
-    REFUSED(ONEROM_REFUSED_PAST_SET, 81, onerom_read_rom_set_data(image, 2048, FLASH, CS0, r, set_rows, SET_ROW, 0, 13, buffer, 4, &count));
-    expect(onerom_read_rom_set_data(image, 2048, FLASH, CS0, r, set_rows, SET_ROW, 0, 16, NULL, 0, &count) == 0 && count == 0, "no bytes, into none");
-    count = 0xFFFFFFFFu;
-    REFUSED(ONEROM_REFUSED_COUNT, 82, onerom_read_rom_set_data(image, 2048, FLASH, CS0, r, set_rows, SET_ROW, 0, 0, buffer, 4, &count));
+#define DATA(offset, buffer, length) \
+    onerom_read_rom_set_data(image, 2048, FLASH, CS0, r, set_rows, SET_ROW, 0, offset, buffer, length, job, counts)
+    REFUSED(ONEROM_REFUSED_PAST_SET, 81, DATA(13, buffer, 4));
+    expect(DATA(16, NULL, 0) == 0 && counted(0), "no bytes, into none");
+    count_from(0xFFFFFFFFu);
+    REFUSED(ONEROM_REFUSED_COUNT, 82, DATA(0, buffer, 4));
+    job = ONEROM_JOBS;
+    REFUSED(ONEROM_REFUSED_JOB, 83, DATA(0, buffer, 4));
+    job = ONEROM_JOBS - 1;
+    count_from(0);
+    expect(DATA(0, buffer, 4) == 0 && counted(4), "the last job");
     r.pins.data[5] = 8;
     REFUSED(ONEROM_REFUSED_DATA_PIN, 79, onerom_demangle(r.pins.number, r.pins.data, 0, &b));
 }
@@ -247,9 +255,10 @@ static void reads(void) {
 /* A logical read of set 1 goes by set 0's count and type. */
 static void by_set_0(void) {
     struct onerom_report r;
-    uint32_t sets[2 * SET_ROW], roms[2 * ROM_ROW], count = 0;
+    uint32_t sets[2 * SET_ROW], roms[2 * ROM_ROW];
     uint8_t b = 0;
     static const uint8_t low[ONEROM_LEVELS];
+    count_from(0);
     r = opening(changed(0, 0)).report;
     for (int i = 0; i < 2; i++) {
         memcpy(sets + i * SET_ROW, set_rows, 4 * SET_ROW);
@@ -258,7 +267,7 @@ static void by_set_0(void) {
     sets[SET_ROW + ONEROM_SET_FIRST_ROM] = 1;
     r.rom_sets.served = 2;
     roms[ROM_ROW + ONEROM_ROM_TYPE] = ONEROM_TYPE_ROM2704;
-#define READ() onerom_read_rom_byte_raw(image, 2048, FLASH, CS0, r, sets, 2 * SET_ROW, roms, 2 * ROM_ROW, 1, 1, 5, low, &count, &b)
+#define READ() onerom_read_rom_byte_raw(image, 2048, FLASH, CS0, r, sets, 2 * SET_ROW, roms, 2 * ROM_ROW, 1, 1, 5, low, job, counts, &b)
     expect(READ() == 0 && b == 85, "set 1's own type is not looked at");
     roms[ROM_ROW + ONEROM_ROM_TYPE] = ONEROM_TYPE_ROM2364;
     roms[ONEROM_ROM_TYPE] = ONEROM_TYPE_ROM2704;
@@ -271,10 +280,13 @@ static void by_set_0(void) {
 /* A read by the set's own ROMs, wrong in every way at first: each step rights what the last number was for, and shows the next. */
 static void by_own_roms(void) {
     struct onerom_report r = opening(changed(0, 0)).report;
-    uint32_t sets[2 * SET_ROW], roms[2 * ROM_ROW], count = 0xFFFFFFFFu, set = 2, base = 0xFFFFFFFFu, cs0 = 0xFFFFFFFFu, address = 0x10000;
+    uint32_t sets[2 * SET_ROW], roms[2 * ROM_ROW], set = 2, base = 0xFFFFFFFFu, cs0 = 0xFFFFFFFFu, address = 0x10000;
     size_t set_words = SET_ROW, rom_words = 2 * ROM_ROW - 1, len = 1536;
     uint8_t b = 0;
     static const uint8_t low[ONEROM_LEVELS];
+    job = 2;
+    count_from(0xFFFFFFFFu);
+    job = 10;
     memset(sets, 0xFF, sizeof sets);
     memcpy(sets + SET_ROW, set_rows, 4 * SET_ROW);
     memset(roms, 0xFF, sizeof roms);
@@ -285,11 +297,13 @@ static void by_own_roms(void) {
     sets[SET_ROW + ONEROM_SET_FIRST_ROM] = 1;
     sets[SET_ROW + ONEROM_SET_ROM_COUNT] = 2;
     sets[SET_ROW + ONEROM_SET_SIZE] = 0;
-#define OWN() onerom_read_rom_byte_own(image, len, base, cs0, r, sets, set_words, roms, rom_words, set, address, low, &count, &b)
+#define OWN() onerom_read_rom_byte_own(image, len, base, cs0, r, sets, set_words, roms, rom_words, set, address, low, job, counts, &b)
     REFUSED(ONEROM_REFUSED_WINDOW, 1, OWN());
     base = FLASH;
     REFUSED(ONEROM_REFUSED_WINDOW, 1, OWN());
     cs0 = CS0;
+    REFUSED(ONEROM_REFUSED_JOB, 83, OWN());
+    job = 2;
     REFUSED(ONEROM_REFUSED_NO_SUCH_SET, 80, OWN());
     r.rom_sets.served = 0;
     REFUSED(ONEROM_REFUSED_NO_SUCH_SET, 80, OWN());
@@ -326,10 +340,11 @@ static void by_own_roms(void) {
     REFUSED(ONEROM_REFUSED_ENDED, 2, OWN());
     len = 1552;
     REFUSED(ONEROM_REFUSED_COUNT, 82, OWN());
-    count = 0;
+    expect(counted(0xFFFFFFFFu), "no count was changed by any of these");
+    count_from(0);
     REFUSED(ONEROM_REFUSED_DATA_PIN, 79, OWN());
     r.pins.data[0] = 7;
-    expect(b == 0 && OWN() == 0 && b == 170 && count == 1, "set 0's rows, all of them wrong, are not looked at");
+    expect(b == 0 && OWN() == 0 && b == 170 && counted(1), "set 0's rows, all of them wrong, are not looked at");
 }
 
 /* ---- what an opening shows */
@@ -372,6 +387,7 @@ static void shown(void) {
     CONSTANT(ONEROM_PART_LENGTH, 1);
     CONSTANT(ONEROM_PART_WIDTH, 2);
     CONSTANT(ONEROM_PART_WORDS, 3);
+    CONSTANT(ONEROM_JOBS, 8);
     CONSTANT(ONEROM_RUNTIME_WORDS, 25);
     CONSTANT(ONEROM_ITEM_BUILD_DATE, 0);
     CONSTANT(ONEROM_ITEM_HW_REV, 1);

@@ -1,5 +1,5 @@
 /* The read by the set's own ROMs beside the one by set 0's: the cases on which they part, and set 0, on which they agree. */
-#include "small.h"
+#include "counts.h"
 
 enum { DATA = 1536, SIZE = 65536 };
 
@@ -8,7 +8,7 @@ static struct onerom_report report;
 static uint32_t sets[2 * SET_ROW], roms[2 * ROM_ROW];
 static size_t set_words, rom_words;
 
-/* An answer, with the count and the byte as the call left them. */
+/* An answer, with the job's count and the byte as the call left them. */
 struct answer {
     uint32_t number, count;
     uint8_t byte;
@@ -39,20 +39,28 @@ static void two_sets(void) {
     rom_words = 2 * ROM_ROW;
 }
 
+static struct answer with_count(struct answer a) {
+    a.count = counts[job];
+    expect(counted(a.count), "the other jobs' counts stay");
+    return a;
+}
+
 static struct answer by_set_0(uint32_t set, uint32_t address, uint8_t cs1, uint32_t count) {
     const uint8_t levels[ONEROM_LEVELS] = {cs1};
-    struct answer a = {0, count, 0xA5};
+    struct answer a = {0, 0, 0xA5};
+    count_from(count);
     a.number = onerom_read_rom_byte_demangled(image, sizeof image, FLASH, CS0, report, sets, set_words, roms, rom_words, set, 1, address, levels,
-                                              &a.count, &a.byte);
-    return a;
+                                              job, counts, &a.byte);
+    return with_count(a);
 }
 
 static struct answer by_own(uint32_t set, uint32_t address, uint8_t cs1, uint32_t count) {
     const uint8_t levels[ONEROM_LEVELS] = {cs1};
-    struct answer a = {0, count, 0xA5};
-    a.number = onerom_read_rom_byte_own(image, sizeof image, FLASH, CS0, report, sets, set_words, roms, rom_words, set, address, levels, &a.count,
+    struct answer a = {0, 0, 0xA5};
+    count_from(count);
+    a.number = onerom_read_rom_byte_own(image, sizeof image, FLASH, CS0, report, sets, set_words, roms, rom_words, set, address, levels, job, counts,
                                         &a.byte);
-    return a;
+    return with_count(a);
 }
 
 static int reads(struct answer a, uint32_t offset) {
@@ -143,6 +151,7 @@ static void on_set_0(void) {
         set_words = SET_ROW - 2 + one_of(3);
         rom_words = ROM_ROW - 2 + one_of(3);
         roms[ONEROM_ROM_TYPE] = types[one_of(5)];
+        job = i % ONEROM_JOBS;
         uint32_t address = one_of(2) ? 0x20000 : 5;
         seen[agree(address, one_of(2) ? 0xFFFFFFFFu : 0) % 100] = 1;
     }
@@ -151,7 +160,7 @@ static void on_set_0(void) {
 }
 
 int main(void) {
-    cases();
+    for (job = 0; job < ONEROM_JOBS; job++) cases();
     on_set_0();
     if (!failed) printf("ok\n");
     return failed;

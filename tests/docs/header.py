@@ -20,7 +20,9 @@ DEFINED = (
 )
 # constants that the Rust wrapper has too
 IN_RUST = ("LINE_", "STORAGE_", "PORT_", "PIO_", "SET_", "ROM_", "PART_", "SERVE_", "STATE_", "TYPE_", "LEVEL", "LOW", "HIGH", "ITEM_", "ACCEPTED",
-           "REFUSED_", "MAX_", "NO_NAME", "FLASH_BASE", "CS0_BASE", "INFO_OFFSET")
+           "REFUSED_", "MAX_", "JOBS", "NO_NAME", "FLASH_BASE", "CS0_BASE", "INFO_OFFSET")
+# constants that a crate owns
+OWNED = (("PART_WORDS", "text"), ("JOBS", "job_counts"))
 
 
 def text(name):
@@ -56,7 +58,7 @@ def defined(specs, function, front):
 
 
 def words_of_bench():
-    """The words of BENCH.md's table up to 82, with the library's word for a dump, and without the bench's own limits."""
+    """The words of BENCH.md's table below 100, with the library's word for a dump, and without the bench's own limits."""
     rows = re.findall(r"(?m)^\| (\d+) \| (.*) \|$", text("docs/BENCH.md").split("## The numbers in words")[1])
     return {int(n): re.sub(r" \((255|4,096)\)$", "", words.replace("dump", "image")) for n, words in rows if int(n) < 100}
 
@@ -78,8 +80,9 @@ def main():
         bad += differences(function, held, cases)
     for name, width in (("SET_WORDS", "setRowLength"), ("ROM_WORDS", "romRowLength")):
         bad += differences(width, {name: c.get(name)}, dict((name, int(n)) for n in re.findall(r"(?m)^%s = (\d+)$" % width, specs)))
-    words = re.search(r"pub const PART_WORDS: usize = (\d+);", text("crates/text/src/lib.rt"))
-    bad += differences("PART_WORDS of text", {"PART_WORDS": c.get("PART_WORDS")}, {"PART_WORDS": words and int(words.group(1))})
+    for name, crate in OWNED:
+        owned = re.search(r"pub const %s: usize = (\d+);" % name, text("crates/%s/src/lib.rt" % crate))
+        bad += differences("%s of %s" % (name, crate), {name: c.get(name)}, {name: owned and int(owned.group(1))})
     bad += differences("the Rust wrapper", {k: v for k, v in c.items() if k.startswith(IN_RUST)}, r)
     c_words = {c.get(name): words for name, words in re.findall(r'case ONEROM_(\w+): return "(.*)";', header)}
     r_words = {r.get(name): words for name, words in re.findall(r'(?m)^ {8}(\w\w+) => "(.*)",$', rust)}

@@ -21,9 +21,10 @@ READING = [
     ("Pins", ["pins/Pins"]),
     ("Mangling", ["least_pin/LeastPin", "base_zero/BaseZero", "rom_rules/Rules", "input_word/Input", "demangle/Bits", "mangle/PinMap", "mangle/Mangle", "demangle/Demangle"]),
     ("Lent rows, ROM data, same set", ["board/Board", "set_data/Data", "governing/Governing", "info/Lent", "info/Reads", "same_set/Same", "data_reads/Calls", "byte_reads/Calls"]),
+    ("a count for each job (document 02, wish 4)", ["job_counts/Counts", "jobs/Jobs", "job_reads/Reads", "machine/Machine", "jobs/Histories", "jobs/Isolated", "opened_board/Histories"]),
     ("Runtime", ["runtime_info/Runtime", "runtime_info/Words"]),
-    ("demand 3", ["cut_short/Shown", "cut_short/ReadAfter", "cut_short/Demand3"]),
-    ("the calls of C and Rust", ["c_board/Board", "c_board/Value", "c_report/Report", "c_handed/Handed", "c_open/Opening", "c_reads/Reads", "c_own/Own", "c_mangle/Board"]),
+    ("demand 3", ["cut_short/Shown", "opened_board/ReadAfter", "cut_short/Demand3"]),
+    ("the calls of C and Rust", ["c_board/Board", "c_board/Value", "c_report/Report", "c_handed/Handed", "c_open/Opening", "c_job_reads/Reads", "c_mangle/Board"]),
 ]
 # Files at the top of specs/ that no buyer needs: the root, and a program's table.
 NOT_READ = {"Lib", "Laws", "Code", "Examples"}

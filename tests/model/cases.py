@@ -455,26 +455,31 @@ def some_calls(rng, sets):
         yield Call(kind, max(0, i), address, [rng.randrange(3) for _ in range(5)], n, count)
 
 
+def some_report(rng, own):
+    """image, what is lent, the calls"""
+    line = rng.randrange(6)
+    size = rng.choice((0, 1, 40, 120, 200))
+    flash, cs0 = rng.choice(((B, C), (C, B), (B, C), (0, 0), (2**32 - size, C), (B, 2**32 - size + 1), (2**32 - size, 2**32 - size)))
+    if flash == 2**32:
+        flash = NONE
+    cs0 = min(cs0, NONE)
+    image = bytes(rng.randrange(256) for _ in range(size))
+    sets, roms = some_rows(rng, cs0 if line == 5 else flash, max(1, size))
+    sets = [w % 2**32 for w in sets]
+    served = rng.choice((0, len(sets) // 8, len(sets) // 8, len(sets) // 8, 1, 2, 255, 300))
+    lent = Lent(flash, cs0, line, some_pins(rng), served, sets, roms)
+    calls = list(some_calls(rng, sets))
+    return image, lent, calls + own_beside(own, calls, lent, image)
+
+
 def altered():
     """Every fifth stands there again with other widths."""
     rng, own = random.Random(20261116), random.Random(20261117)
     for number in range(300):
-        line = rng.randrange(6)
-        size = rng.choice((0, 1, 40, 120, 200))
-        flash, cs0 = rng.choice(((B, C), (C, B), (B, C), (0, 0), (2**32 - size, C), (B, 2**32 - size + 1), (2**32 - size, 2**32 - size)))
-        if flash == 2**32:
-            flash = NONE
-        cs0 = min(cs0, NONE)
-        image = bytes(rng.randrange(256) for _ in range(size))
-        sets, roms = some_rows(rng, cs0 if line == 5 else flash, max(1, size))
-        sets = [w % 2**32 for w in sets]
-        served = rng.choice((0, len(sets) // 8, len(sets) // 8, len(sets) // 8, 1, 2, 255, 300))
-        lent = Lent(flash, cs0, line, some_pins(rng), served, sets, roms)
-        calls = list(some_calls(rng, sets))
-        calls += own_beside(own, calls, lent, image)
-        yield Report(image, lent, calls)
+        report = some_report(rng, own)
+        yield Report(*report)
         if number % 5 == 0:
-            yield OtherWidths(image, lent, calls)
+            yield OtherWidths(*report)
 
 
 # ---- the read by the set's own ROMs (document 02, wish 1)

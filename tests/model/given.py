@@ -1,11 +1,13 @@
 """The answers of another reader of documents 01 and 02: tests/data/boards-vectors.xz and lent-vectors.xz, a line of JSON, then the images; and, a
-line of JSON each, own-vectors.xz on the read of wish 1 and width-vectors.xz on the widths of wish 3. Where the model beside this file answers
-otherwise, an assertion stops the script. All but the last have ROM rows of seven words, which are made rows of eight as they are read, and answers
-without widths, with which the model's are compared without theirs."""
+line of JSON each, own-vectors.xz on the read of wish 1, width-vectors.xz on the widths of wish 3 and jobs-vectors.xz on the jobs of wish 4. Where
+the model beside this file answers otherwise, an assertion stops the script. All but the last two have ROM rows of seven words, which are made rows
+of eight as they are read, and answers without widths, with which the model's are compared without theirs. A count of all but the last is that of
+any one job."""
 import json, lzma, os
 
 import opening, rows
-from opening import Call, Lent
+from history import History
+from opening import ALL_ZERO, JOBS, Call, Image, Lent
 
 DATA = os.path.join(os.path.dirname(os.path.abspath(__file__)), "..", "data")
 
@@ -124,7 +126,7 @@ def lent_as_told(v, roms):
     """The pins are as lent beside a refused pins item too: number, ROM pins, data, address, control."""
     number, rom_pins, *pins = v["pins"]
     words = [number, 0, 0, 0, 0, 0, rom_pins] + pins[:27] + [0] * 3 + pins[27:] + [0] * 37
-    return Lent(*v["settings"], v["line"], words, v["served"], v["set_rows"], roms)
+    return Lent(*v["settings"][:2], v["line"], words, v["served"], v["set_rows"], roms)
 
 
 def own_lent():
@@ -172,3 +174,73 @@ def width_lent():
     for v in unpacked("width-vectors.xz")[0]["lent"]:
         image, given = image_of(v), lent_as_told(v, v["rom_rows"])
         yield image, given, compare_calls([(kind, i, address, levels, 1, 0, reply) for kind, i, address, levels, reply in v["calls"]], given, image)
+
+
+# ---- the jobs of wish 4; ROM rows have eight words, and the images stand once each
+
+
+def job_calls(v):
+    """A line's calls, each with its job, as in a history."""
+    return [(Call(kind, i, address, levels, n), job) for kind, i, address, levels, n, job, *_ in v["calls"]]
+
+
+def compare_reply(v, call, job, answer, reply):
+    """A reply is without the count, which is among those beside it."""
+    shown = [answer[0], answer[1].hex()] if call.reads() else list(answer)
+    assert shown == reply, (v["note"], vars(call), job, answer, reply)
+
+
+def compare_history(v, lent, image):
+    """The history, after each reply and all counts after each call were compared."""
+    history = History(v["start"], job_calls(v))
+    for (call, job), (answer, counts), (*_, reply, told) in zip(history.asked, history.steps(lent, image), v["calls"]):
+        compare_reply(v, call, job, answer, reply)
+        assert counts == told, (v["note"], vars(call), job, counts, told)
+        assert not call.reads() or answer[2] == (told[job] if job < JOBS else 0), (v["note"], vars(call), job, answer, told)
+    return history
+
+
+def compare_firsts(v, replies, lent, image):
+    """Each call is the first after the opening."""
+    assert len(replies) == len(v["calls"]), v
+    for (call, job), reply in zip(job_calls(v), replies):
+        compare_reply(v, call, job, call.on(lent, image, job, ALL_ZERO)[0], reply)
+
+
+def job_boards():
+    """image, settings, set words, ROM words, the history, the cuts; of a board that is cut each call was told as the first after the opening"""
+    told = unpacked("jobs-vectors.xz")[0]
+    images = [image_of(v) for v in told["images"]]
+    for v in told["opened"] + told["cuts"]:
+        image, settings, lengths = images[v["image"]], v["settings"], (v["set_words"], v["rom_words"])
+        lent = opening.lent_of(opening.opening(image, settings, *lengths), settings, *lengths)
+        if "start" in v:
+            yield image, settings, *lengths, compare_history(v, lent, image)
+            continue
+        compare_firsts(v, [reply for *_, reply in v["calls"]], lent, image)
+        for take, number, replies in v["cuts"]:
+            cut = opening.opening(image[:take], settings, *lengths)
+            assert cut.number == number and (number == 0 or replies == []), (v, take)
+            if number == 0:
+                compare_firsts(v, replies, opening.lent_of(cut, settings, *lengths), image[:take])
+        yield image, settings, *lengths, History(ALL_ZERO, job_calls(v)), [take for take, _, _ in v["cuts"]]
+
+
+def kept(history, lent, image):
+    """The image with the bytes that the history's replies rest on, the others 0."""
+    noted = Image(image)
+    history.steps(lent, noted)
+    out = bytearray(len(image))
+    for at, n in noted.spans:
+        out[at : at + n] = image[at : at + n]
+    return bytes(out)
+
+
+def job_lent():
+    """image, what is lent, the history"""
+    told = unpacked("jobs-vectors.xz")[0]
+    images = [image_of(v) for v in told["images"]]
+    for v in told["lent"]:
+        given = lent_as_told(v, v["rom_rows"])
+        image = kept(History(v["start"], job_calls(v)), given, images[v["image"]])
+        yield image, given, compare_history(v, given, image)

@@ -11,14 +11,18 @@ A record of stdin is its length and then, packed (see `packed`), ten words, the 
         cuts a line on demand 3: what failed, cuts, refused, ended, equal, reads that a cut accepted, the sum over all answers of the cuts.
     76  flash base, CS0 base, line, set words, ROM words, image length, calls, sets served, pins number; the pins' 88 bytes, the rows, the calls
         Calls on a report and rows as lent. One line.
-A call is 16 bytes: kind, levels (five digits to base 3, CS1 the lowest), u16 length, set, address, count. tests/data/boards-vectors.xz,
-lent-vectors.xz, own-vectors.xz and width-vectors.xz are answers of another reader of the documents, the boards of oracle-sample.txt the Rust's;
-where one differs from opening.py, this script stops.
+    98, 108
+        The same, but the calls are a history: the eight counts that it starts from stand right behind the image, and those at its end behind the
+        replies. On a cut each read is still the first after the opening: all counts are 0 before it.
+A call is 16 bytes: kind, levels (five digits to base 3, CS1 the lowest), u16 length, set, address, and in a history the job, else the count before
+it. Call k by itself is for job k modulo 8. tests/data/boards-vectors.xz, lent-vectors.xz, own-vectors.xz, width-vectors.xz and jobs-vectors.xz
+are answers of another reader of the documents, the boards of oracle-sample.txt the Rust's; where one differs from opening.py, this script stops.
 """
 import functools, random, re, struct
 
-import cases, files, given, opening, oracle
-from opening import KINDS, NONE
+import cases, files, given, jobs, opening, oracle
+from history import Alone, History
+from opening import ALL_ZERO, NONE
 
 
 def mix(a, n):
@@ -68,16 +72,10 @@ def report_line(o):
     return [0, sum_of(o.words)] + [w for item in items for w in item]
 
 
-def call_bytes(c):
-    levels = sum(digit * 3**i for i, digit in enumerate(c.levels))
-    return struct.pack("<BBHIII", KINDS.index(c.kind), levels, c.n, c.set, c.address, c.count)
-
-
-def reply_words(call, lent, image):
-    """What the program shows of a reply: of a read of several bytes the sum of the buffer."""
-    answer = list(call.answer(lent, image))
+def reply_words(call, answer):
+    """What the program shows of an answer: of a read of several bytes the sum of the buffer."""
     if not call.reads():
-        return answer
+        return list(answer)
     number, bs, count = answer
     if call.kind == "data":
         return [number, untouched_sum(call.n) if number else sum_of(bs), count]
@@ -85,13 +83,14 @@ def reply_words(call, lent, image):
 
 
 def calls_line(calls, lent, image):
-    parts = []
-    for c in calls:
+    for c, _ in calls.asked:
         if c.kind == "own" and c.set == 0:
             opening.old_and_own(c, lent, image)
-        words = reply_words(c, lent, image)
-        parts.append(" ".join(map(str, [words[0], words[1]] + ([words[2]] if c.reads() else []))))
-    return ", ".join(parts)
+    answers, end = calls.run(lent, image)
+    parts = [reply_words(c, answer) for (c, _), answer in zip(calls.asked, answers)]
+    if end:
+        parts.append(end)
+    return ", ".join(" ".join(map(str, part)) for part in parts)
 
 
 def rows_line(rows, n):
@@ -99,7 +98,7 @@ def rows_line(rows, n):
     return " ".join(map(str, [sum_of(opening.left(rows, n))] + [w for row in shown for w in row]))
 
 
-def cuts_line(image, settings, set_words, rom_words, calls, cuts, reach):
+def cuts_line(image, settings, set_words, rom_words, asked, cuts, reach):
     refused = ended = equal = reads = 0
     total = 1
     for k in cuts:
@@ -112,9 +111,9 @@ def cuts_line(image, settings, set_words, rom_words, calls, cuts, reach):
         if o.number:
             continue
         lent = opening.lent_of(o, settings, set_words, rom_words)
-        for c in calls:
+        for c, job in asked:
             if c.reads():
-                number, value, count = reply_words(c.first(), lent, image[:k])
+                number, value, count = reply_words(c, c.on(lent, image[:k], job, ALL_ZERO)[0])
                 total = mix(mix(total, number), mix(value, count))
                 reads += number == 0
     return "demand 3 holds: " + " ".join(map(str, (0, len(cuts), refused, ended, equal, reads, total)))
@@ -134,8 +133,10 @@ class Out:
     def board(self, image, settings, set_words, rom_words, calls=(), cuts=(), opened=None):
         o = opened or opening.opening(image, settings, set_words, rom_words)
         reach = o.image.reach()
-        head = struct.pack("<10I", 66, *settings, set_words, rom_words, len(image), len(calls), NONE if cuts == "all" else len(cuts), reach)
-        self.record(head, image, *map(call_bytes, calls), b"" if cuts == "all" else struct.pack("<%dI" % len(cuts), *cuts))
+        calls = calls if isinstance(calls, History) else Alone(calls)
+        lengths = set_words, rom_words, len(image), len(calls.asked)
+        head = struct.pack("<10I", 66 + calls.mark, *settings, *lengths, NONE if cuts == "all" else len(cuts), reach)
+        self.record(head, image, calls.front, calls.packed(), b"" if cuts == "all" else struct.pack("<%dI" % len(cuts), *cuts))
         cuts = range(len(image) + 1) if cuts == "all" else cuts
         self.lines.append(" ".join(map(str, report_line(o))))
         self.lines += [rows_line(o.sets, set_words), rows_line(o.roms, rom_words)]
@@ -143,18 +144,20 @@ class Out:
         self.lines.append(calls_line(calls, lent, image))
         if cuts:
             assert o.number == 0
-            self.lines.append(cuts_line(image, settings, set_words, rom_words, calls, cuts, reach))
-        self.calls += len(calls)
+            self.lines.append(cuts_line(image, settings, set_words, rom_words, calls.asked, cuts, reach))
+        self.calls += len(calls.asked)
         self.cuts += len(cuts)
 
     def lent(self, image, lent, calls):
         sets, roms, pins = lent.sets, lent.roms, lent.pins
-        head = struct.pack("<10I", 76, lent.flash, lent.cs0, lent.line, len(sets), len(roms), len(image), len(calls), lent.served, pins[0])
+        calls = calls if isinstance(calls, History) else Alone(calls)
+        lengths = len(sets), len(roms), len(image), len(calls.asked)
+        head = struct.pack("<10I", 76 + calls.mark, lent.flash, lent.cs0, lent.line, *lengths, lent.served, pins[0])
         record = cases.pins_record(pins)
         rows = struct.pack("<%dI" % (len(sets) + len(roms)), *sets, *roms)
-        self.record(head, image, record, rows, *map(call_bytes, calls))
+        self.record(head, image, calls.front, record, rows, calls.packed())
         self.lines.append(calls_line(calls, lent, image))
-        self.calls += len(calls)
+        self.calls += len(calls.asked)
 
 
 def cuts_of(o, size, every):
@@ -194,33 +197,29 @@ def the_other_readers(out):
     print("the other reader's lent rows agree:", reports, "reports,", calls, "calls")
 
 
-def the_other_readers_own(out):
-    records, calls, cuts = out.records, out.calls, out.cuts
-    for given_board in given.own_boards():
-        out.board(*given_board)
-    for given_report in given.own_lent():
-        out.lent(*given_report)
-    print("the other reader's reads of wish 1 agree: %d records, %d calls, %d cuts" % (out.records - records, out.calls - calls, out.cuts - cuts))
-
-
-def the_other_readers_widths(out):
-    records, calls, cuts = out.records, out.calls, out.cuts
-    for given_board in given.width_boards():
-        out.board(*given_board)
-    for given_report in given.width_lent():
-        out.lent(*given_report)
-    print("the other reader's widths agree: %d records, %d calls, %d cuts" % (out.records - records, out.calls - calls, out.cuts - cuts))
+def the_other_readers_wishes(out):
+    """What that reader answered of document 02."""
+    for what, boards, lent in (
+        ("reads of wish 1", given.own_boards, given.own_lent),
+        ("widths", given.width_boards, given.width_lent),
+        ("histories for jobs", given.job_boards, given.job_lent),
+    ):
+        records, calls, cuts = out.records, out.calls, out.cuts
+        for given_board in boards():
+            out.board(*given_board)
+        for given_report in lent():
+            out.lent(*given_report)
+        print("the other reader's %s agree: %d records, %d calls, %d cuts" % (what, out.records - records, out.calls - calls, out.cuts - cuts))
 
 
 def main():
     out = Out()
     the_other_readers(out)
-    the_other_readers_own(out)
-    the_other_readers_widths(out)
+    the_other_readers_wishes(out)
     records, calls = out.records, out.calls
     the_rusts(out)
     print("the Rust's boards agree:", out.records - records, "boards,", out.calls - calls, "calls")
-    for name, boards in cases.GROUPS:
+    for name, boards in cases.GROUPS + jobs.GROUPS:
         records, calls, cuts = out.records, out.calls, out.cuts
         for case in boards():
             case.run(out)

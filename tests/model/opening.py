@@ -1,11 +1,14 @@
-"""Document 01, "ROM sets and ROM infos", "Report", "ROM data", "Lent rows" and "Same set", and of document 02 the read of wish 1 and the widths of
-wish 3, read a second time, in Python."""
+"""Document 01, "ROM sets and ROM infos", "Report", "ROM data", "Lent rows" and "Same set", and of document 02 the read of wish 1, the widths of
+wish 3 and the counts of wish 4, read a second time, in Python."""
 import mangle, records
 from records import NONE, u32
 from rows import ROM_WORDS, SET_WORDS
 
 TOP = 2**32
 NOT_LOOKED_FOR = 256
+# jobs 0 to 7, and their counts at the opening
+JOBS = 8
+ALL_ZERO = [0] * JOBS
 # the report as words: where each item starts, and how long it is
 FIELDS, DATE, REVISION, EXTRA, METADATA, SETS, PINS = (0, 27), (27, 4), (31, 4), (35, 7), (42, 1), (43, 3), (46, 78)
 NO_REPORT = [0] * 35 + [0, 0, 0, 0, 0, 2, NONE] + [NOT_LOOKED_FOR] + [0] * 81
@@ -255,24 +258,28 @@ class Lent:
         bs = records.read(image, self.cs0 if self.line == 5 else self.flash, row[0] + offset, n)
         return (2, b"") if bs is None else (0, bytes(bs))
 
-    def read(self, image, kind, i, address, levels, n, count):
-        """number, bytes, count afterwards"""
+    def read(self, image, kind, i, address, levels, n, job, counts):
+        """number, bytes, the eight counts afterwards: 1, 83, then as by the job's own count, at which alone 82 looks (document 02, wish 4)"""
         if max(self.flash, self.cs0) + len(image) > TOP:
-            return 1, b"", count
+            return 1, b"", counts
+        if job >= JOBS:
+            return 83, b"", counts
         number, at = 0, address
         if kind in ("logical", "logical raw"):
             number, at = self.mangle(address, levels)
         elif kind == "own":
             number, at = self.mangle_own(i, address, levels)
         if number:
-            return number, b"", count
+            return number, b"", counts
         number, bs = self.data(image, i, at, n)
-        if number == 0 and count + n > NONE:
+        if number == 0 and counts[job] + n > NONE:
             number = 82
         if number == 0 and kind in ("raw", "logical", "own"):
             number, value = self.demangle(bs[0])
             bs = bytes([value])
-        return (number, b"", count) if number else (0, bs, count + n)
+        if number:
+            return number, b"", counts
+        return 0, bs, [*counts[:job], counts[job] + n, *counts[job + 1 :]]
 
 
 def lent_of(opened, settings, set_words, rom_words):
@@ -285,7 +292,7 @@ KINDS = ("mangle", "demangle", "size", "same", "data", "raw", "raw raw", "logica
 
 
 class Call:
-    """Levels are five of 0 (not given), 1 (low), 2 (high)."""
+    """Levels are five of 0 (not given), 1 (low), 2 (high). A call by itself has the count of its job before it; the other jobs' are full."""
 
     def __init__(self, kind, i=0, address=0, levels=(0, 0, 0, 0, 0), n=1, count=0):
         self.kind, self.set, self.address, self.levels, self.n, self.count = kind, i, address, tuple(levels), n, count
@@ -293,27 +300,31 @@ class Call:
     def reads(self):
         return KINDS.index(self.kind) >= 4
 
-    def first(self):
-        """The same call as the first after an opening."""
-        return Call(self.kind, self.set, self.address, self.levels, self.n, 0)
-
-    def answer(self, lent, image):
-        """As in the vectors: number and value; for reads number, bytes and count."""
+    def on(self, lent, image, job, counts):
+        """The answer and the eight counts afterwards. An answer is as in the vectors: number and value; of a read number, bytes and its job's count,
+        0 of a job that has none."""
         if self.kind == "mangle":
-            return lent.mangle(self.address, self.levels)
+            return lent.mangle(self.address, self.levels), counts
         if self.kind == "demangle":
-            return lent.demangle(self.address)
+            return lent.demangle(self.address), counts
         if self.kind == "size":
-            return lent.size(self.set)
+            return lent.size(self.set), counts
         if self.kind == "same":
-            return lent.same(self.set, self.address)
-        return lent.read(image, self.kind, self.set, self.address, self.levels, self.n, self.count)
+            return lent.same(self.set, self.address), counts
+        number, bs, after = lent.read(image, self.kind, self.set, self.address, self.levels, self.n, job, counts)
+        return (number, bs, after[job] if job < JOBS else 0), after
+
+    def answer(self, lent, image, job=0):
+        """The answer to the call by itself, whichever of the jobs 0 to 7 it is for."""
+        counts = [NONE] * JOBS
+        counts[job] = self.count
+        return self.on(lent, image, job, counts)[0]
 
 
 def old_and_own(call, lent, image):
     """Wish 1, of a read of set 0: the old read accepts where the new one does, with the same byte and count, and so refuse both; but old 71 is
     new 80, and of old 70 come first the 80 and the 4 that stand before it now."""
-    old = lent.read(image, "logical", call.set, call.address, call.levels, 1, call.count)
+    old = Call("logical", call.set, call.address, call.levels, 1, call.count).answer(lent, image)
     number = old[0]
     if number in (70, 71):
         number = 80 if lent.served == 0 else 4 if lent.governs(0) is None else 70

@@ -27,6 +27,18 @@ test_c_own() {
     c_test own
 }
 
+# A count for each job, by every read.
+test_c_counts() {
+    c_test counts
+}
+
+# Histories of several jobs: another reader's answers.
+test_c_jobs() {
+    needs python3
+    cc -std=c99 -Wall -Wextra -Werror -pedantic -Iinclude -o target/c-jobs tests/c/jobs.c crates/onerom/out/libonerom.a &&
+        python3 -B tests/c/jobs.py target/c-jobs
+}
+
 # The first ROM row of every set, on boards of up to 255 sets: another reader's answers.
 test_c_rows() {
     needs python3
@@ -89,7 +101,7 @@ test_rust_fields() {
         [ "$(target/rust-fields target/fields.img)" = ok ]
 }
 
-# The wrapper's read by the set's own ROMs, on the sample boards.
+# The wrapper's reads, on the sample boards.
 test_rust_calls() {
     needs rustc
     rustc --edition 2024 -D warnings -O -o target/rust-calls tests/rust/calls.rs -L crates/onerom/out -l static=onerom && [ "$(target/rust-calls)" = ok ]

@@ -1,5 +1,5 @@
-//! The wrapper's read by the set's own ROMs, on the sample boards, whose ROMs hold numbered lines of text (samples/make.py); and its strings and
-//! names, with their widths.
+//! The wrapper's reads, on the sample boards, whose ROMs hold numbered lines of text (samples/make.py): by the set's own ROMs, and for several jobs;
+//! and its strings and names, with their widths.
 
 #[path = "../../examples/rust/onerom.rs"]
 mod onerom;
@@ -8,6 +8,15 @@ use onerom::*;
 
 const SETS: [&str; 5] = ["genoa.bin", "mainsail.bin", "spinnaker.bin", "genoa.bin", "mizzen.bin"];
 const ALL_LOW: [u8; LEVELS] = [LOW; LEVELS];
+/// The job that reads where only one does.
+const JOB: u32 = 5;
+
+/// Eight counts of which only that job's is not 0.
+fn only(count: u32) -> [u32; JOBS] {
+    let mut counts = [0; JOBS];
+    counts[JOB as usize] = count;
+    counts
+}
 
 fn sample(name: &str) -> Vec<u8> {
     std::fs::read(format!("samples/{name}")).expect("a sample board")
@@ -31,7 +40,8 @@ fn high(lines: &[usize]) -> [u8; LEVELS] {
 
 /// The bytes of a set at the first 2,048 addresses.
 fn seen(board: &mut Board, set: u32, levels: &[u8; LEVELS]) -> Vec<u8> {
-    let byte = |address| board.read_rom_byte_own(set, address, levels).unwrap_or_else(|refused| panic!("set {set}, address {address}: {refused}"));
+    let byte =
+        |address| board.read_rom_byte_own(set, address, levels, JOB).unwrap_or_else(|refused| panic!("set {set}, address {address}: {refused}"));
     (0..2048).map(byte).collect()
 }
 
@@ -43,21 +53,60 @@ fn one_rom_each() {
         assert!(seen(&mut board, set, &ALL_LOW) == text(name)[..2048], "set {set}");
     }
     assert!(seen(&mut board, 2, &high(&[LEVEL_CS2])) == text(SETS[2])[2048..4096], "set 2, CS2 high");
-    assert_eq!(board.count, 6 * 2048);
+    assert_eq!(board.counts, only(6 * 2048));
 
     // each set by its own type, and a refusal counts nothing
-    assert_eq!(board.read_rom_byte_own(0, 2048, &ALL_LOW), Err(Refused(REFUSED_ADDRESS)));
-    assert_eq!(board.read_rom_byte_own(2, 4096, &ALL_LOW), Err(Refused(REFUSED_ADDRESS)));
-    assert_eq!(board.read_rom_byte_own(0, 0, &high(&[LEVEL_CS2])), Err(Refused(REFUSED_PAST_SET)));
-    assert_eq!(board.read_rom_byte_own(5, 0, &ALL_LOW), Err(Refused(REFUSED_NO_SUCH_SET)));
-    assert_eq!(board.count, 6 * 2048);
-    assert_eq!(board.read_rom_byte_own(2, 2048, &ALL_LOW), Ok(b's'));
-    board.count = u32::MAX;
-    assert_eq!(board.read_rom_byte_own(2, 2048, &ALL_LOW), Err(Refused(REFUSED_COUNT)));
-    assert_eq!(board.count, u32::MAX);
+    assert_eq!(board.read_rom_byte_own(0, 2048, &ALL_LOW, JOB), Err(Refused(REFUSED_ADDRESS)));
+    assert_eq!(board.read_rom_byte_own(2, 4096, &ALL_LOW, JOB), Err(Refused(REFUSED_ADDRESS)));
+    assert_eq!(board.read_rom_byte_own(0, 0, &high(&[LEVEL_CS2]), JOB), Err(Refused(REFUSED_PAST_SET)));
+    assert_eq!(board.read_rom_byte_own(5, 0, &ALL_LOW, JOB), Err(Refused(REFUSED_NO_SUCH_SET)));
+    assert_eq!(board.counts, only(6 * 2048));
+    assert_eq!(board.read_rom_byte_own(2, 2048, &ALL_LOW, JOB), Ok(b's'));
+    board.counts = only(u32::MAX);
+    assert_eq!(board.read_rom_byte_own(2, 2048, &ALL_LOW, JOB), Err(Refused(REFUSED_COUNT)));
+    assert_eq!(board.counts, only(u32::MAX));
     board.report.pins.number = 50;
-    assert_eq!(board.read_rom_byte_own(2, 0, &ALL_LOW), Err(Refused(REFUSED_NO_PINS)));
-    assert_eq!(board.read_rom_byte_own(5, 0, &ALL_LOW), Err(Refused(REFUSED_NO_SUCH_SET)));
+    assert_eq!(board.read_rom_byte_own(2, 0, &ALL_LOW, JOB), Err(Refused(REFUSED_NO_PINS)));
+    assert_eq!(board.read_rom_byte_own(5, 0, &ALL_LOW, JOB), Err(Refused(REFUSED_NO_SUCH_SET)));
+}
+
+/// Each job has its own count, by either read; no other job's stands in its way.
+fn jobs() {
+    let image = sample("rp2350.img");
+    let mut board = opened(&image);
+    let mut buffer = [0; 10];
+    assert_eq!(board.counts, [0; JOBS]);
+    assert_eq!(board.read(1, 0, &mut buffer, 0), Ok(()));
+    for address in 0..5 {
+        assert_eq!(board.read_rom_byte_own(1, address, &ALL_LOW, 1), Ok(text(SETS[1])[address as usize]));
+    }
+    assert_eq!(board.read(1, 2048 - 9, &mut buffer, 0), Err(Refused(REFUSED_PAST_SET)));
+    let counts = [10, 5, 0, 0, 0, 0, 0, 0];
+    assert_eq!(board.counts, counts);
+
+    // no such job
+    buffer = [0xA5; 10];
+    for job in [8, 9, 256, 257, u32::MAX] {
+        assert_eq!(board.read(9, 0, &mut buffer, job), Err(Refused(REFUSED_JOB)));
+        assert_eq!(board.read_rom_byte_own(9, 0, &ALL_LOW, job), Err(Refused(REFUSED_JOB)));
+    }
+    assert_eq!((board.counts, buffer), (counts, [0xA5; 10]));
+    assert_eq!(Refused(REFUSED_JOB).to_string(), "refused 83: there is no such job");
+
+    // job 3's count is full
+    board.counts[3] = u32::MAX;
+    assert_eq!(board.read(0, 0, &mut buffer, 3), Err(Refused(REFUSED_COUNT)));
+    assert_eq!(board.read_rom_byte_own(0, 0, &ALL_LOW, 3), Err(Refused(REFUSED_COUNT)));
+    assert_eq!(board.read(9, 0, &mut buffer, 3), Err(Refused(REFUSED_NO_SUCH_SET)));
+    assert_eq!(board.read(0, 0, &mut [], 3), Ok(()));
+    assert_eq!(board.read(0, 0, &mut buffer, 4), Ok(()));
+    assert_eq!(board.counts, [10, 5, 0, u32::MAX, 10, 0, 0, 0]);
+
+    // the last job, while all others are full
+    board.counts = [u32::MAX; JOBS];
+    board.counts[7] = 0;
+    assert_eq!(board.read(0, 0, &mut buffer, 7), Ok(()));
+    assert_eq!(board.counts[7], 10);
 }
 
 /// Set 0 has three ROMs, chosen by CS1, X1 and X2; set 1 has one, to which X1 and X2 are nothing.
@@ -109,6 +158,7 @@ fn widths() {
 
 fn main() {
     one_rom_each();
+    jobs();
     several_roms();
     strings();
     widths();

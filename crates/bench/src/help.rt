@@ -29,5 +29,5 @@ pub(crate) fn help(out: &mut Out) {
 
 // The version of include/onerom.h.
 pub(crate) fn version(out: &mut Out) {
-    bench_out::text(out, b"bench 2.0\n");
+    bench_out::text(out, b"bench 3.0\n");
 }

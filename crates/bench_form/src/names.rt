@@ -43,8 +43,8 @@ pub(crate) fn named(out: &mut Out, letter: u8, n: u32) {
     );
 }
 
-// What a number means, in plain words: document 01's up to 82, the program's own from 100 on. A row has the numbers of one ten; the first has 0 to 9.
-// An empty entry is a number that is never said.
+// What a number means, in plain words: the documents' below 100, the program's own from there on. A row has the numbers of one ten; the first
+// has 0 to 9. An empty entry is a number that is never said.
 pub(crate) fn words(out: &mut Out, number: u32) {
     cell(
         out,
@@ -64,7 +64,8 @@ pub(crate) fn words(out: &mut Out, number: u32) {
         a control pin of the type is not on one of the sixteen pins that are read|\
         the address is above the ROM's last|logical reads do not cover a 28C16|a data pin is at 8 or above\n\
         there is no such set|the read goes past the set's size|\
-        the count of bytes served would pass 4,294,967,295\n\n\
+        the count of bytes served would pass 4,294,967,295|\
+        there is no such job\n\n\
         an argument is too long|no such option; bench help lists them|\
         this option needs a value after it|no such command: it is read, raw, byte or help|\
         it needs a SET, and byte an ADDRESS too|one argument too many|\

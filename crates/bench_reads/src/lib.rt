@@ -1,5 +1,6 @@
 // Bytes of a set: as a socket would see them, as they are stored, and one by itself. Each call says the status that the program ends with.
-// A socket's bytes go by the set's own ROM count and first type; where it is asked for, by set 0's.
+// A socket's bytes go by the set's own ROM count and first type; where it is asked for, by set 0's. The reads are all job 0's, each on counts of its
+// own, which start at 0.
 #![tactic(auto)]
 
 ghost use Rattle.std.specs.Prelude.{◌≤◌, ◌≡◌, length};
@@ -10,8 +11,11 @@ use bench_refuse::Asked;
 use board::Board;
 use byte_reads::ByteRead;
 use info::SdrrAddress;
+use job_counts::JOBS;
 use rows::SetWord;
 use types::SdrrCsSet;
+
+const JOB: u32 = 0;
 
 // 131,072 bytes: the addresses of the largest type that can be read so, a 231024.
 fn byte_space() -> [u8; 131072]
@@ -70,13 +74,16 @@ fn logical_byte(
     at: u32,
     cs_set: SdrrCsSet,
 ) -> ByteRead {
+    let counts = &mut [0; JOBS];
     if by_set_0 {
         let address = SdrrAddress::Logical(at, cs_set);
-        return byte_reads::read_rom_byte_demangled(
-            image, board, set_rows, rom_rows, set, address, 0,
+        return job_reads::read_rom_byte_demangled(
+            image, board, set_rows, rom_rows, set, address, JOB, counts,
         );
     }
-    own_reads::read_rom_byte_own(image, board, set_rows, rom_rows, set, at, cs_set, 0)
+    job_reads::read_rom_byte_own(
+        image, board, set_rows, rom_rows, set, at, cs_set, JOB, counts,
+    )
 }
 
 // The bytes at addresses 0 to the mask, which ends where the library says 77.
@@ -199,7 +206,8 @@ fn raw_part(
     offset: u32,
     space: &mut [u8],
 ) -> bool {
-    let r = data_reads::read_rom_set_data(image, board, set_rows, set, offset, space, 0);
+    let counts = &mut [0; JOBS];
+    let r = job_reads::read_rom_set_data(image, board, set_rows, set, offset, space, JOB, counts);
     if r.number != 0 {
         return false;
     }
@@ -306,7 +314,8 @@ fn byte_at(
     }
     let offset = offset_of(board, set_rows, rom_rows, by_set_0, set, at, cs_set);
     let place = SdrrAddress::Raw(offset);
-    let s = byte_reads::read_rom_byte_raw(image, board, set_rows, rom_rows, set, place, 0);
+    let counts = &mut [0; JOBS];
+    let s = job_reads::read_rom_byte_raw(image, board, set_rows, rom_rows, set, place, JOB, counts);
     show_byte(asked, set, at, r.byte, s.byte, offset)
 }
 

@@ -32,7 +32,7 @@ fn for_script(rt: HostRuntime, stream: Stream, n: u32) {
     bench_out::flush(&mut out);
 }
 
-// The words; a number of document 01 is shown before them, on the line above.
+// The words; a number of the documents is shown before them, on the line above.
 fn words(out: &mut Out, n: u32) {
     if n < 100 {
         form(out, b"refused with %d:\n  %w\n", &[n, n]);

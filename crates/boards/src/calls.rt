@@ -1,11 +1,12 @@
 // Calls on a board, by the report and rows as lent.
-use super::{record, show, words};
+use super::{reads, record, show, words};
 use board::Board;
-use info::SdrrAddress;
+use job_counts::JOBS;
 use std::io;
 use types::{Level, SdrrCsSet};
 
-// A call as the input has it, in 16 bytes: kind, levels (five digits to base 3, CS1 the lowest), a half for the length, three words.
+// A call as the input has it, in 16 bytes: kind, levels (five digits to base 3, CS1 the lowest), a half for the length, three words; the last is in
+// a history the job, and of a call by itself the count before it of the job that its place gives it.
 #[derive(Clone, Copy)]
 pub(crate) struct Call {
     pub(crate) kind: u8,
@@ -13,10 +14,11 @@ pub(crate) struct Call {
     pub(crate) length: u16,
     pub(crate) set: u32,
     pub(crate) address: u32,
+    pub(crate) job: u32,
     pub(crate) count: u32,
 }
 
-// A number, and a value: of a read of several bytes the sum of the buffer. Reads have the served count beside them.
+// A number, and a value: of a read of several bytes the sum of the buffer. Reads have their job's count beside them.
 #[derive(Clone, Copy)]
 pub(crate) struct Reply {
     pub(crate) number: u8,
@@ -24,20 +26,28 @@ pub(crate) struct Reply {
     pub(crate) count: u32,
 }
 
-fn call_of(bytes: &[u8]) -> Call {
+fn call_of(bytes: &[u8], job: u32, count: u32) -> Call {
     Call {
         kind: le::u8_at(bytes, 0),
         levels: le::u8_at(bytes, 1),
         length: le::u16_at(bytes, 2),
         set: le::u32_at(bytes, 4),
         address: le::u32_at(bytes, 8),
-        count: le::u32_at(bytes, 12),
+        job,
+        count,
     }
 }
 
-// The call k.
-pub(crate) fn call_at(calls: &[u8], k: u32) -> Call {
-    call_of(record::from(calls, 16 * (k as usize)))
+// The call at an index, by itself.
+pub(crate) fn lone_call(calls: &[u8], at: usize) -> Call {
+    let bytes = record::from(calls, at);
+    call_of(bytes, (at / 16 % JOBS) as u32, le::u32_at(bytes, 12))
+}
+
+// The call at an index, of a history.
+pub(crate) fn history_call(calls: &[u8], at: usize) -> Call {
+    let bytes = record::from(calls, at);
+    call_of(bytes, le::u32_at(bytes, 12), 0)
 }
 
 fn level(digit: u8) -> Level {
@@ -48,7 +58,7 @@ fn level(digit: u8) -> Level {
     }
 }
 
-fn levels(n: u8) -> SdrrCsSet {
+pub(crate) fn levels(n: u8) -> SdrrCsSet {
     SdrrCsSet {
         cs1: level(n % 3),
         cs2: level(n / 3 % 3),
@@ -56,14 +66,6 @@ fn levels(n: u8) -> SdrrCsSet {
         x1: level(n / 27 % 3),
         x2: level(n / 81 % 3),
     }
-}
-
-// Kinds 5 and 6 have a raw address, 7 and 8 a logical one.
-fn address(call: Call) -> SdrrAddress {
-    if call.kind < 7 {
-        return SdrrAddress::Raw(call.address);
-    }
-    SdrrAddress::Logical(call.address, levels(call.levels))
 }
 
 fn mangle(board: Board, sets: &[u32], roms: &[u32], call: Call) -> Reply {
@@ -111,75 +113,6 @@ fn same(board: Board, sets: &[u32], roms: &[u32], call: Call) -> Reply {
     }
 }
 
-fn data(image: &[u8], board: Board, sets: &[u32], call: Call, buffer: &mut [u8]) -> Reply {
-    words::fill_bytes(buffer);
-    let r = data_reads::read_rom_set_data(
-        image,
-        board,
-        sets,
-        call.set,
-        call.address,
-        buffer,
-        call.count,
-    );
-    Reply {
-        number: r.number,
-        value: words::byte_sum(buffer),
-        count: r.count,
-    }
-}
-
-// Kinds 5 to 8; 5 and 7 are demangled.
-fn byte(image: &[u8], board: Board, sets: &[u32], roms: &[u32], call: Call) -> Reply {
-    let a = address(call);
-    let r = if call.kind % 2 == 1 {
-        byte_reads::read_rom_byte_demangled(image, board, sets, roms, call.set, a, call.count)
-    } else {
-        byte_reads::read_rom_byte_raw(image, board, sets, roms, call.set, a, call.count)
-    };
-    Reply {
-        number: r.number,
-        value: r.byte as u32,
-        count: r.count,
-    }
-}
-
-fn own(image: &[u8], board: Board, sets: &[u32], roms: &[u32], call: Call) -> Reply {
-    let r = own_reads::read_rom_byte_own(
-        image,
-        board,
-        sets,
-        roms,
-        call.set,
-        call.address,
-        levels(call.levels),
-        call.count,
-    );
-    Reply {
-        number: r.number,
-        value: r.byte as u32,
-        count: r.count,
-    }
-}
-
-// A read, into a buffer of the call's length where it is one of several bytes.
-pub(crate) fn read(
-    image: &[u8],
-    board: Board,
-    sets: &[u32],
-    roms: &[u32],
-    call: Call,
-    buffer: &mut [u8],
-) -> Reply {
-    if call.kind == 4 {
-        return data(image, board, sets, call, buffer);
-    }
-    if call.kind == 9 {
-        return own(image, board, sets, roms, call);
-    }
-    byte(image, board, sets, roms, call)
-}
-
 fn run(
     image: &[u8],
     board: Board,
@@ -187,6 +120,7 @@ fn run(
     roms: &[u32],
     call: Call,
     buffer: &mut [u8],
+    counts: &mut [u32; JOBS],
 ) -> Reply {
     let kind = call.kind;
     match kind {
@@ -194,49 +128,30 @@ fn run(
         1 => demangle(board, call),
         2 => size(board, sets, call),
         3 => same(board, sets, roms, call),
-        _ => read(image, board, sets, roms, call, buffer),
+        _ => reads::read(image, board, sets, roms, call, buffer, counts),
     }
 }
 
-fn run_shown(
+// A call on the counts as they are, and its reply.
+pub(crate) fn run_shown(
     rt: &impl Print,
     image: &[u8],
     board: Board,
     sets: &[u32],
     roms: &[u32],
     call: Call,
+    counts: &mut [u32; JOBS],
 ) -> io::Result<()> {
     let mut space = words::byte_space();
     let n = call.length as usize;
     if 4096 < n {
         return Ok(());
     }
-    let r = run(image, board, sets, roms, call, &mut space[..n]);
+    let r = run(image, board, sets, roms, call, &mut space[..n], counts);
     show::first(rt, r.number as u32)?;
     show::next(rt, r.value)?;
     if 3 < call.kind {
         show::next(rt, r.count)?;
     }
     Ok(())
-}
-
-// The calls, one after the other on a line.
-pub(crate) fn run_all(
-    rt: &impl Print,
-    image: &[u8],
-    board: Board,
-    sets: &[u32],
-    roms: &[u32],
-    calls: &[u8],
-) -> io::Result<()> {
-    let mut at = 0;
-    while 16 <= calls.len() - at {
-        if at != 0 {
-            show::gap(rt)?;
-        }
-        let call = call_of(record::from(calls, at));
-        run_shown(rt, image, board, sets, roms, call)?;
-        at += 16;
-    }
-    show::end(rt)
 }

@@ -1,8 +1,9 @@
 // Demand 3 on the code as it runs: reads on a cut beside the same reads on the whole, each as the first after the opening.
 use super::calls::{Call, Reply};
 use super::tally::Tally;
-use super::{calls, record, tally, words};
+use super::{calls, reads, record, tally, words};
 use board::Board;
+use job_counts::JOBS;
 
 // The boards of the whole and of a cut, and the cut's length.
 #[derive(Clone, Copy)]
@@ -37,7 +38,7 @@ fn refused(cut: Reply) -> Both {
     Both {
         tried: true,
         cut,
-        held: true,
+        held: reads::has_right_counts(cut),
     }
 }
 
@@ -59,17 +60,26 @@ fn accepted(whole: Reply, cut: Reply, bytes: &[u8; 4096], cut_bytes: &[u8; 4096]
     }
 }
 
-// The call k as the first after an opening.
-fn first(given: &[u8], k: u32) -> Call {
-    let call = calls::call_at(record::calls(given), k);
-    Call {
-        kind: call.kind,
-        levels: call.levels,
-        length: call.length,
-        set: call.set,
-        address: call.address,
-        count: 0,
+// The call k.
+fn call_at(given: &[u8], k: u32) -> Call {
+    let at = 16 * (k as usize);
+    if record::is_history(given) {
+        return calls::history_call(record::calls(given), at);
     }
+    calls::lone_call(record::calls(given), at)
+}
+
+// A read as the first after an opening, when all counts are 0.
+fn first(
+    image: &[u8],
+    board: Board,
+    sets: &[u32],
+    roms: &[u32],
+    call: Call,
+    buffer: &mut [u8],
+) -> Reply {
+    let mut counts = [0u32; JOBS];
+    reads::read(image, board, sets, roms, call, buffer, &mut counts)
 }
 
 // The call on the cut, where it is a read and the buffers hold its bytes; and, where the cut accepts it, on the whole.
@@ -93,7 +103,7 @@ fn read_both(
     }
     let cut_image = record::cut_image(given, b.length);
     let cut_board = b.cut;
-    let r = calls::read(
+    let r = first(
         cut_image,
         cut_board,
         cut_sets,
@@ -106,7 +116,7 @@ fn read_both(
     }
     let image = record::image(given);
     let board = b.whole;
-    let w = calls::read(image, board, sets, roms, call, &mut bytes[..n]);
+    let w = first(image, board, sets, roms, call, &mut bytes[..n]);
     accepted(w, r, &bytes, &cut_bytes)
 }
 
@@ -130,7 +140,7 @@ pub(crate) fn run(
 ) -> Tally {
     let mut t = tally;
     for k in 0..record::word(given, 7) {
-        let call = first(given, k);
+        let call = call_at(given, k);
         t = counted(t, read_both(b, given, sets, roms, cut_sets, cut_roms, call));
     }
     t

@@ -1,5 +1,5 @@
 // Calls on a report and rows as the input lends them.
-use super::{calls, record, words};
+use super::{lines, record, words};
 use board::{Board, BoardPins};
 use pins::PinsItem;
 use std::io;
@@ -35,6 +35,5 @@ pub(crate) fn run(
     let calls = record::from(rom_rows, 4 * (record::word(given, 5) as usize));
     words::load(sets, rows);
     words::load(roms, rom_rows);
-    let image = record::image(given);
-    calls::run_all(rt, image, board(given), sets, roms, calls)
+    lines::run(rt, given, board(given), sets, roms, calls)
 }

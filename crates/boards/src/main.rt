@@ -6,8 +6,10 @@ mod calls;
 mod cut_reads;
 mod cuts;
 mod lent;
+mod lines;
 mod opened;
 mod packed;
+mod reads;
 mod record;
 mod report;
 mod show;
@@ -49,7 +51,7 @@ fn read_record(input: &mut impl Read, space: &mut [u8]) -> io::Result<usize> {
 }
 
 fn run_rows(rt: &impl Print, given: &[u8], sets: &mut [u32], roms: &mut [u32]) -> io::Result<()> {
-    if record::word(given, 0) == 76 {
+    if record::is_lent(given) {
         lent::run(rt, given, sets, roms)
     } else {
         opened::run(rt, given, sets, roms)

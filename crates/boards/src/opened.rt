@@ -1,5 +1,5 @@
 // A board that is opened: its report, its rows, the calls on them, and its cuts.
-use super::{calls, cuts, record, report, show, words};
+use super::{cuts, lines, record, report, show, words};
 use board::Board;
 use fw_parser::Opening;
 use rows::SetWord;
@@ -84,14 +84,7 @@ fn show_opening(
     let report = report::words_of(info);
     show_report(rt, o.number, &report)?;
     show_all_rows(rt, sets, roms, b.served)?;
-    calls::run_all(
-        rt,
-        record::image(given),
-        b,
-        sets,
-        roms,
-        record::calls(given),
-    )
+    lines::run(rt, given, b, sets, roms, record::calls(given))
 }
 
 // The cuts, where there are any.

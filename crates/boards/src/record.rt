@@ -1,4 +1,4 @@
-// A record of the input: ten words, then the image, then what its kind has.
+// A record of the input: ten words, then the image, of a history the eight counts that it starts from, then what its kind has.
 
 // The word k of a record.
 pub(crate) fn word(record: &[u8], k: u8) -> u32 {
@@ -21,13 +21,34 @@ pub(crate) fn image(record: &[u8]) -> &[u8] {
     part(record, 40, word(record, 6) as usize)
 }
 
-// What comes behind the image.
+// Whether its calls are a history: 32 is added to its kind.
+pub(crate) fn is_history(record: &[u8]) -> bool {
+    let kind = word(record, 0);
+    base::either(kind == 98, kind == 108)
+}
+
+// Whether its report and rows are lent, and not an opening's.
+pub(crate) fn is_lent(record: &[u8]) -> bool {
+    let kind = word(record, 0);
+    base::either(kind == 76, kind == 108)
+}
+
+fn behind_image(record: &[u8]) -> &[u8] {
+    from(record, 40 + word(record, 6) as usize)
+}
+
+// The bytes that start with a history's counts.
+pub(crate) fn counts(record: &[u8]) -> &[u8] {
+    behind_image(record)
+}
+
+// What comes behind the image and a history's counts.
 pub(crate) fn rest(record: &[u8]) -> &[u8] {
-    let from = 40 + word(record, 6) as usize;
-    if record.len() < from {
-        return &record[..0];
+    let bytes = behind_image(record);
+    if is_history(record) {
+        return from(bytes, 32);
     }
-    &record[from..]
+    bytes
 }
 
 // The calls, so many as word 7 says, 16 bytes each.

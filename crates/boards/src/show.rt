@@ -1,4 +1,5 @@
 // Numbers on lines.
+use job_counts::JOBS;
 use std::io;
 
 pub(crate) fn first(rt: &impl Print, n: u32) -> io::Result<()> {
@@ -23,4 +24,11 @@ pub(crate) fn words(rt: &impl Print, words: &[u32]) -> io::Result<()> {
         next(rt, *word)?;
     }
     Ok(())
+}
+
+// Eight counts, which end a line.
+pub(crate) fn counts(rt: &impl Print, counts: &[u32; JOBS]) -> io::Result<()> {
+    first(rt, counts[0])?;
+    words(rt, &counts[1..])?;
+    end(rt)
 }

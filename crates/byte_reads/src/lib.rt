@@ -1,4 +1,5 @@
-// The byte reads (info.rs `read_rom_byte_raw`, `read_rom_byte_demangled`). They go by the report and rows as lent.
+// The byte reads on one count (info.rs `read_rom_byte_raw`, `read_rom_byte_demangled`; over them, with a count for each job, job_reads). They go
+// by the report and rows as lent.
 #![tactic(auto)]
 
 ghost use Rattle.std.specs.Prelude.{◌≡◌, true, false};
@@ -100,7 +101,7 @@ pub fn byte_at(
     stored_byte(image, base, data, m, count)
 }
 
-pub fn read_rom_byte_raw(
+pub fn byte_raw_on_count(
     image: &[u8],
     board: Board,
     set_rows: &[u32],
@@ -147,7 +148,7 @@ pub fn shown_byte(pins_number: u8, data: [u8; 8], raw: ByteRead, count: u32) -> 
     }
 }
 
-pub fn read_rom_byte_demangled(
+pub fn byte_demangled_on_count(
     image: &[u8],
     board: Board,
     set_rows: &[u32],
@@ -158,7 +159,7 @@ pub fn read_rom_byte_demangled(
 ) -> ByteRead
     ensures { result ≡ byteOf (romRead board.flash_base board.cs0_base (lentBy board set_rows.now rom_rows.now) count (byte set address true) image.now) }
 {
-    let raw = read_rom_byte_raw(image, board, set_rows, rom_rows, set, address, count);
+    let raw = byte_raw_on_count(image, board, set_rows, rom_rows, set, address, count);
     let pins = board.pins;
     let data = pins.data;
     shown_byte(pins.number, data, raw, count)

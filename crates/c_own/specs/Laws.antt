@@ -14,7 +14,7 @@ use Rattle.own_reads.specs.Laws.Steps.{byte-own}
 use Rattle.c_report.specs.declared.OneromReport.{OneromReport}
 use Rattle.c_handed.specs.Handed.{lineIn, pinsIn, boardIn}
 use Rattle.c_board.specs.Board.{levelsFrom}
-use Rattle.c_own.specs.Own.{ownCall}
+use Rattle.c_own.specs.Code.{ownOnCount}
 
 module _ (f c : ℕ) (report : OneromReport) (sets roms : List ℕ) (set address : ℕ) (levels : List ℕ) (count : ℕ) (x : List ℕ)
     (line : McuLine) (told : line ≡ lineIn report.header.line)
@@ -23,8 +23,8 @@ module _ (f c : ℕ) (report : OneromReport) (sets roms : List ℕ) (set address
     (m : Mangled) (leads : m ≡ mangleOwn pins report.rom_sets.served sets roms set address given)
     (raw : ByteRead) (read : raw ≡ byteAt f c line report.rom_sets.served sets set m count x)
     (shown : ByteRead) (demangled : shown ≡ shownFrom 0 report.pins.«data» raw count) where
-  pub own-read : shown ≡ ownCall f c report sets roms set address levels count x
-  unfolding ownCall boardIn pinsIn
+  pub own-read : shown ≡ ownOnCount f c report sets roms set address levels count x
+  unfolding ownOnCount boardIn pinsIn
   own-read =
       byte-own f c (lentBy (boardIn f c report) sets roms) count x set address (levelsFrom levels) m
       (leads ∙ ap₂ (λ (p : BoardPins) (s : SdrrCsSet). mangleOwn p report.rom_sets.served sets roms set address s) held taken)

@@ -1,14 +1,14 @@
-// The byte by the set's own ROMs as C and Rust call it: by a report handed back.
+// The byte by the set's own ROMs for C and Rust, on one count: by a report handed back.
 #![tactic(auto)]
 
 ghost use Rattle.std.specs.Prelude.{◌≡◌};
 ghost use Rattle.c_board.specs.Value.{valueAfter};
-ghost use Rattle.c_own.specs.Own.{ownCall};
+ghost use Rattle.c_own.specs.Code.{ownOnCount};
 
 use c_report::OneromReport;
 
 // Of the report no more is handed on than the read takes, so that it is not copied once more.
-pub fn own_byte_call(
+pub fn own_byte_on_count(
     image: &[u8],
     flash_base: u32,
     cs0_base: u32,
@@ -21,9 +21,9 @@ pub fn own_byte_call(
     count: &mut u32,
     value: &mut u8,
 ) -> u32
-    ensures reply { result ≡ (ownCall flash_base cs0_base report set_rows.now rom_rows.now set address levels.now count.old image.now).number }
-    ensures count { count.new ≡ (ownCall flash_base cs0_base report set_rows.now rom_rows.now set address levels.now count.old image.now).count }
-    ensures value { value.new ≡ valueAfter result (ownCall flash_base cs0_base report set_rows.now rom_rows.now set address levels.now count.old image.now).byte value.old }
+    ensures reply { result ≡ (ownOnCount flash_base cs0_base report set_rows.now rom_rows.now set address levels.now count.old image.now).number }
+    ensures count { count.new ≡ (ownOnCount flash_base cs0_base report set_rows.now rom_rows.now set address levels.now count.old image.now).count }
+    ensures value { value.new ≡ valueAfter result (ownOnCount flash_base cs0_base report set_rows.now rom_rows.now set address levels.now count.old image.now).byte value.old }
 {
     let header = report.header;
     let line = c_handed::line_in(header.line);

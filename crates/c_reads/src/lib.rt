@@ -1,16 +1,16 @@
-// ROM data and the byte reads as C and Rust call them: by a report handed back.
+// ROM data and the byte reads for C and Rust, on one count: by a report handed back.
 #![tactic(auto)]
 
 ghost use Rattle.std.specs.Prelude.{◌≡◌, true, false, length};
 ghost use Rattle.info.specs.Reads.{bufferLeft};
 ghost use Rattle.c_board.specs.Value.{valueAfter};
-ghost use Rattle.c_reads.specs.Reads.{dataCall, byteCall};
+ghost use Rattle.c_reads.specs.Code.{dataOnCount, byteOnCount};
 
 use c_report::OneromReport;
 use mangle::Mangled;
 
-#[tactic(auto, unfolding(crate::specs::Reads::dataCall, c_handed::specs::Handed::boardIn))]
-pub fn data_call(
+#[tactic(auto, unfolding(crate::specs::Code::dataOnCount, c_handed::specs::Handed::boardIn))]
+pub fn data_on_count(
     image: &[u8],
     flash_base: u32,
     cs0_base: u32,
@@ -21,13 +21,13 @@ pub fn data_call(
     buffer: &mut [u8],
     count: &mut u32,
 ) -> u32
-    ensures reply { result ≡ (dataCall flash_base cs0_base report set_rows.now set offset (length buffer.old) count.old image.now).number }
-    ensures buffer { buffer.new ≡ bufferLeft (dataCall flash_base cs0_base report set_rows.now set offset (length buffer.old) count.old image.now) buffer.old }
-    ensures count { count.new ≡ (dataCall flash_base cs0_base report set_rows.now set offset (length buffer.old) count.old image.now).count }
+    ensures reply { result ≡ (dataOnCount flash_base cs0_base report set_rows.now set offset (length buffer.old) count.old image.now).number }
+    ensures buffer { buffer.new ≡ bufferLeft (dataOnCount flash_base cs0_base report set_rows.now set offset (length buffer.old) count.old image.now) buffer.old }
+    ensures count { count.new ≡ (dataOnCount flash_base cs0_base report set_rows.now set offset (length buffer.old) count.old image.now).count }
 {
     let board = c_handed::board_in(flash_base, cs0_base, report);
     let before = *count;
-    let stored = data_reads::read_rom_set_data(image, board, set_rows, set, offset, buffer, before);
+    let stored = data_reads::data_on_count(image, board, set_rows, set, offset, buffer, before);
     *count = stored.count;
     stored.number as u32
 }
@@ -45,7 +45,7 @@ fn offset(address: u32) -> Mangled
 // Two functions, not one that is given the flag: the compiler joins each to its only caller, and the report is not copied once more. For the
 // same reason a read by a raw offset, which looks at no pin and no ROM row, carries neither.
 #[tactic(auto, using(crate::proofs::Calls::by_calls))]
-pub fn raw_byte_call(
+pub fn raw_byte_on_count(
     image: &[u8],
     flash_base: u32,
     cs0_base: u32,
@@ -59,9 +59,9 @@ pub fn raw_byte_call(
     count: &mut u32,
     value: &mut u8,
 ) -> u32
-    ensures reply { result ≡ (byteCall false flash_base cs0_base report set_rows.now rom_rows.now set logical address levels.now count.old image.now).number }
-    ensures count { count.new ≡ (byteCall false flash_base cs0_base report set_rows.now rom_rows.now set logical address levels.now count.old image.now).count }
-    ensures value { value.new ≡ valueAfter result (byteCall false flash_base cs0_base report set_rows.now rom_rows.now set logical address levels.now count.old image.now).byte value.old }
+    ensures reply { result ≡ (byteOnCount false flash_base cs0_base report set_rows.now rom_rows.now set logical address levels.now count.old image.now).number }
+    ensures count { count.new ≡ (byteOnCount false flash_base cs0_base report set_rows.now rom_rows.now set logical address levels.now count.old image.now).count }
+    ensures value { value.new ≡ valueAfter result (byteOnCount false flash_base cs0_base report set_rows.now rom_rows.now set logical address levels.now count.old image.now).byte value.old }
 {
     let header = report.header;
     let line = c_handed::line_in(header.line);
@@ -83,7 +83,7 @@ pub fn raw_byte_call(
 }
 
 #[tactic(auto, using(crate::proofs::Calls::by_calls))]
-pub fn demangled_byte_call(
+pub fn demangled_byte_on_count(
     image: &[u8],
     flash_base: u32,
     cs0_base: u32,
@@ -97,9 +97,9 @@ pub fn demangled_byte_call(
     count: &mut u32,
     value: &mut u8,
 ) -> u32
-    ensures reply { result ≡ (byteCall true flash_base cs0_base report set_rows.now rom_rows.now set logical address levels.now count.old image.now).number }
-    ensures count { count.new ≡ (byteCall true flash_base cs0_base report set_rows.now rom_rows.now set logical address levels.now count.old image.now).count }
-    ensures value { value.new ≡ valueAfter result (byteCall true flash_base cs0_base report set_rows.now rom_rows.now set logical address levels.now count.old image.now).byte value.old }
+    ensures reply { result ≡ (byteOnCount true flash_base cs0_base report set_rows.now rom_rows.now set logical address levels.now count.old image.now).number }
+    ensures count { count.new ≡ (byteOnCount true flash_base cs0_base report set_rows.now rom_rows.now set logical address levels.now count.old image.now).count }
+    ensures value { value.new ≡ valueAfter result (byteOnCount true flash_base cs0_base report set_rows.now rom_rows.now set logical address levels.now count.old image.now).byte value.old }
 {
     let header = report.header;
     let line = c_handed::line_in(header.line);

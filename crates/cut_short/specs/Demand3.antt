@@ -6,7 +6,7 @@ use Rattle.info.specs.Reads.{RomRead}
 use Rattle.window.specs.declared.Settings.{Settings}
 use Rattle.fw_parser.specs.Opening.{Opened, refused, opened, openP, openWith, setRowsLeft, romRowsLeft}
 use Rattle.cut_short.specs.Shown.{EndedOpening, KeptOpening}
-use Rattle.cut_short.specs.ReadAfter.{readAfter}
+use Rattle.opened_board.specs.ReadAfter.{readAfter}
 
 -- the image opens
 abbrev pub Opens : Opened → Type 0
@@ -27,6 +27,6 @@ pub record Demand3 (s : Settings) (sets roms : List ℕ) (x : List ℕ) (k : ℕ
   pub ended-below : k < reachWith s sets roms x → EndedOpening (openWith s sets roms (take k x))
   -- and what is shown without that mark is the whole image's
   pub items-kept : KeptOpening (openWith s sets roms (take k x)) (openWith s sets roms x)
-  -- a ROM read that succeeds on the cut image, the first or a later one, succeeds on the whole with the same bytes
-  pub reads-kept : (count : ℕ) (r : RomRead) → (readAfter s sets roms (openWith s sets roms (take k x)) count r (take k x)).number ≡ 0
-      → readAfter s sets roms (openWith s sets roms x) count r x ≡ readAfter s sets roms (openWith s sets roms (take k x)) count r (take k x)
+  -- a ROM read, by any job, that succeeds on the cut image, the first or a later one, succeeds on the whole with the same bytes
+  pub reads-kept : (job : ℕ) (counts : List ℕ) (r : RomRead) → (readAfter s sets roms (openWith s sets roms (take k x)) job counts r (take k x)).number ≡ 0
+      → readAfter s sets roms (openWith s sets roms x) job counts r x ≡ readAfter s sets roms (openWith s sets roms (take k x)) job counts r (take k x)

@@ -1,4 +1,3 @@
 pub mod Shown
-pub mod ReadAfter
 pub mod Demand3
 pub mod Laws

@@ -1,4 +1,5 @@
-// ROM data, a range of a set (info.rs `read_rom_set_data`). Goes by the report and rows as lent.
+// ROM data, a range of a set, on one count (info.rs `read_rom_set_data`; over it, with a count for each job, job_reads). Goes by the report and
+// rows as lent.
 #![tactic(auto)]
 
 ghost use Rattle.std.specs.Prelude.{◌≡◌, [], length};
@@ -44,7 +45,7 @@ fn placed(image: &[u8], board: Board, set_rows: &[u32], set: u32, offset: u32, n
 }
 
 // The set's bytes from an offset on, as many as the buffer holds; a refused call changes no byte of it.
-pub fn read_rom_set_data(
+pub fn data_on_count(
     image: &[u8],
     board: Board,
     set_rows: &[u32],

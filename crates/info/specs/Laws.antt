@@ -1,5 +1,5 @@
 pub mod Like
-pub mod History
+pub mod Count
 pub mod Steps
 pub mod Calls
 pub mod RomRows

@@ -77,41 +77,22 @@ pub record Reply : Type 0 where
   pub bytes : List ℕ
   pub count : ℕ
 
+abbrev pub refusedReply : ℕ → ℕ → Reply
+refusedReply n count = record { number = n; bytes = []; count = count }
+
 abbrev pub readReply : ℕ → RomRead → Bytes → Reply
 readReply count r b = record { number = b.number; bytes = b.bytes; count = pick (eqb b.number 0) (count + lengthOf r) count }
 
 -- 1: the window check, before anything else
 unfoldable pub romRead : (flashBase cs0Base : ℕ) → Lent → ℕ → RomRead → List ℕ → Reply
 romRead flashBase cs0Base l count r x =
-    pick (beyondWindow flashBase cs0Base x) (record { number = 1; bytes = []; count = count })
+    pick (beyondWindow flashBase cs0Base x) (refusedReply 1 count)
     (readReply count r (run (readP (baseAfter flashBase cs0Base l.line) l count r) x))
 
 -- what the lent buffer holds afterwards: a refusal changes no byte
 abbrev pub bufferLeft : Reply → List ℕ → List ℕ
 bufferLeft r lent = pick (eqb r.number 0) r.bytes lent
 
--- ---- a history: reads one after another, each with any settings, report, rows and image, altered or not
-
-pub record ReadCall : Type 0 where
-  pub flashBase : ℕ
-  pub cs0Base : ℕ
-  pub lent : Lent
-  pub read : RomRead
-  pub image : List ℕ
-
-abbrev pub replyTo : ℕ → ReadCall → Reply
-replyTo count c = romRead c.flashBase c.cs0Base c.lent count c.read c.image
-
--- the served count, which each call is lent as the one before left it
-unfoldable pub countAfter : ℕ → List ReadCall → ℕ
-countAfter count [] = count
-countAfter count (c ∷ cs) = countAfter (replyTo count c).count cs
-
 -- the length of a read that was accepted, 0 of one that was refused
-abbrev pub acceptedLength : Reply → RomRead → ℕ
-acceptedLength t r = pick (eqb t.number 0) (lengthOf r) 0
-
--- the accepted lengths of a history, added up
-unfoldable pub acceptedLengths : ℕ → List ReadCall → ℕ
-acceptedLengths count [] = 0
-acceptedLengths count (c ∷ cs) = acceptedLength (replyTo count c) c.read + acceptedLengths (replyTo count c).count cs
+abbrev pub acceptedLength : (number : ℕ) → RomRead → ℕ
+acceptedLength number r = pick (eqb number 0) (lengthOf r) 0

@@ -4,8 +4,9 @@ ghost use Rattle.set_data.specs.Data.{sizeCall};
 ghost use Rattle.same_set.specs.Same.{sameSet};
 ghost use Rattle.info.specs.Reads.{bufferLeft};
 ghost use Rattle.c_board.specs.Value.{valueAfter};
-ghost use Rattle.c_reads.specs.Reads.{dataCall, byteCall};
-ghost use Rattle.c_own.specs.Own.{ownCall};
+ghost use Rattle.byte_reads.specs.Calls.{byteOf};
+ghost use Rattle.jobs.specs.Jobs.{countsLeft};
+ghost use Rattle.c_job_reads.specs.Reads.{dataCall, byteCall, ownCall};
 
 use c_report::OneromReport;
 
@@ -47,14 +48,15 @@ pub extern "C" fn onerom_read_rom_set_data(
     set: u32,
     offset: u32,
     buffer: &mut [u8],
-    count: &mut u32,
+    job: u32,
+    counts: &mut [u32; job_counts::JOBS],
 ) -> u32
-    ensures reply { result ≡ (dataCall flash_base cs0_base report set_rows.now set offset (length buffer.old) count.old image.now).number }
-    ensures buffer { buffer.new ≡ bufferLeft (dataCall flash_base cs0_base report set_rows.now set offset (length buffer.old) count.old image.now) buffer.old }
-    ensures count { count.new ≡ (dataCall flash_base cs0_base report set_rows.now set offset (length buffer.old) count.old image.now).count }
+    ensures reply { result ≡ (dataCall flash_base cs0_base report set_rows.now set offset (length buffer.old) job counts.old image.now).number }
+    ensures buffer { buffer.new ≡ bufferLeft (dataCall flash_base cs0_base report set_rows.now set offset (length buffer.old) job counts.old image.now) buffer.old }
+    ensures counts { counts.new ≡ countsLeft job counts.old (dataCall flash_base cs0_base report set_rows.now set offset (length buffer.old) job counts.old image.now) }
 {
-    c_reads::data_call(
-        image, flash_base, cs0_base, report, set_rows, set, offset, buffer, count,
+    c_job_reads::data_call(
+        image, flash_base, cs0_base, report, set_rows, set, offset, buffer, job, counts,
     )
 }
 
@@ -70,16 +72,17 @@ pub extern "C" fn onerom_read_rom_byte_raw(
     logical: u8,
     address: u32,
     levels: &[u8; 5],
-    count: &mut u32,
+    job: u32,
+    counts: &mut [u32; job_counts::JOBS],
     value: &mut u8,
 ) -> u32
-    ensures reply { result ≡ (byteCall false flash_base cs0_base report set_rows.now rom_rows.now set logical address levels.now count.old image.now).number }
-    ensures count { count.new ≡ (byteCall false flash_base cs0_base report set_rows.now rom_rows.now set logical address levels.now count.old image.now).count }
-    ensures value { value.new ≡ valueAfter result (byteCall false flash_base cs0_base report set_rows.now rom_rows.now set logical address levels.now count.old image.now).byte value.old }
+    ensures reply { result ≡ (byteCall false flash_base cs0_base report set_rows.now rom_rows.now set logical address levels.now job counts.old image.now).number }
+    ensures counts { counts.new ≡ countsLeft job counts.old (byteCall false flash_base cs0_base report set_rows.now rom_rows.now set logical address levels.now job counts.old image.now) }
+    ensures value { value.new ≡ valueAfter result (byteOf (byteCall false flash_base cs0_base report set_rows.now rom_rows.now set logical address levels.now job counts.old image.now)).byte value.old }
 {
-    c_reads::raw_byte_call(
+    c_job_reads::raw_byte_call(
         image, flash_base, cs0_base, report, set_rows, rom_rows, set, logical, address, levels,
-        count, value,
+        job, counts, value,
     )
 }
 
@@ -95,16 +98,17 @@ pub extern "C" fn onerom_read_rom_byte_demangled(
     logical: u8,
     address: u32,
     levels: &[u8; 5],
-    count: &mut u32,
+    job: u32,
+    counts: &mut [u32; job_counts::JOBS],
     value: &mut u8,
 ) -> u32
-    ensures reply { result ≡ (byteCall true flash_base cs0_base report set_rows.now rom_rows.now set logical address levels.now count.old image.now).number }
-    ensures count { count.new ≡ (byteCall true flash_base cs0_base report set_rows.now rom_rows.now set logical address levels.now count.old image.now).count }
-    ensures value { value.new ≡ valueAfter result (byteCall true flash_base cs0_base report set_rows.now rom_rows.now set logical address levels.now count.old image.now).byte value.old }
+    ensures reply { result ≡ (byteCall true flash_base cs0_base report set_rows.now rom_rows.now set logical address levels.now job counts.old image.now).number }
+    ensures counts { counts.new ≡ countsLeft job counts.old (byteCall true flash_base cs0_base report set_rows.now rom_rows.now set logical address levels.now job counts.old image.now) }
+    ensures value { value.new ≡ valueAfter result (byteOf (byteCall true flash_base cs0_base report set_rows.now rom_rows.now set logical address levels.now job counts.old image.now)).byte value.old }
 {
-    c_reads::demangled_byte_call(
+    c_job_reads::demangled_byte_call(
         image, flash_base, cs0_base, report, set_rows, rom_rows, set, logical, address, levels,
-        count, value,
+        job, counts, value,
     )
 }
 
@@ -119,14 +123,16 @@ pub extern "C" fn onerom_read_rom_byte_own(
     set: u32,
     address: u32,
     levels: &[u8; 5],
-    count: &mut u32,
+    job: u32,
+    counts: &mut [u32; job_counts::JOBS],
     value: &mut u8,
 ) -> u32
-    ensures reply { result ≡ (ownCall flash_base cs0_base report set_rows.now rom_rows.now set address levels.now count.old image.now).number }
-    ensures count { count.new ≡ (ownCall flash_base cs0_base report set_rows.now rom_rows.now set address levels.now count.old image.now).count }
-    ensures value { value.new ≡ valueAfter result (ownCall flash_base cs0_base report set_rows.now rom_rows.now set address levels.now count.old image.now).byte value.old }
+    ensures reply { result ≡ (ownCall flash_base cs0_base report set_rows.now rom_rows.now set address levels.now job counts.old image.now).number }
+    ensures counts { counts.new ≡ countsLeft job counts.old (ownCall flash_base cs0_base report set_rows.now rom_rows.now set address levels.now job counts.old image.now) }
+    ensures value { value.new ≡ valueAfter result (byteOf (ownCall flash_base cs0_base report set_rows.now rom_rows.now set address levels.now job counts.old image.now)).byte value.old }
 {
-    c_own::own_byte_call(
-        image, flash_base, cs0_base, report, set_rows, rom_rows, set, address, levels, count, value,
+    c_job_reads::own_byte_call(
+        image, flash_base, cs0_base, report, set_rows, rom_rows, set, address, levels, job, counts,
+        value,
     )
 }

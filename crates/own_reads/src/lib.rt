@@ -1,4 +1,5 @@
-// The byte at a logical address by the set's own ROMs: mangling goes by the named set, not by set 0. Goes by the report and rows as lent.
+// The byte at a logical address by the set's own ROMs, on one count: mangling goes by the named set, not by set 0. Goes by the report and rows as
+// lent. Over it, with a count for each job, job_reads.
 #![tactic(auto)]
 
 ghost use Rattle.std.specs.Prelude.{◌≡◌};
@@ -35,7 +36,7 @@ pub fn shown_own(data: [u8; 8], raw: ByteRead, count: u32) -> ByteRead
     }
 }
 
-pub fn read_rom_byte_own(
+pub fn byte_own_on_count(
     image: &[u8],
     board: Board,
     set_rows: &[u32],

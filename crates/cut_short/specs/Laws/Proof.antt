@@ -1,6 +1,6 @@
 -- Demand 3, proved: from the cut of each reader, of the whole opening, and of a ROM read.
 -- Assumes nothing.
-use Rattle.std.specs.Prelude.{ℕ, ◌≤◌, Bool, List, [], length, take}
+use Rattle.std.specs.Prelude.{ℕ, ◌≤◌, Bool, List, length, take}
 use native.Mathlib.Omega.{arith}
 use Rattle.std.proofs.Math.Path.{◌≡◌, refl}
 use Rattle.std.proofs.Common.{sym, ap, ◌∙◌, subst, inl, inr}
@@ -15,7 +15,7 @@ use Rattle.prog.specs.Laws.Cut.{past, below, shown}
 use Rattle.walk.specs.Walk.{romsOf}
 use Rattle.walk.specs.Rows.{setRows, romRows, overwritten}
 use Rattle.info.specs.Lent.{Lent, lentBy}
-use Rattle.info.specs.Reads.{RomRead, readP, Reply, readReply, romRead}
+use Rattle.info.specs.Reads.{RomRead, readP, Reply, refusedReply, readReply, romRead}
 use Rattle.info.specs.Laws.Like.{Like, read-unserved}
 use Rattle.window.specs.declared.Settings.{Settings}
 use Rattle.sdrr_info.specs.Report.{boardOf}
@@ -23,7 +23,11 @@ use Rattle.fw_parser.specs.Opening.{Opened, refused, opened, openP, opening, set
 use Rattle.fw_parser.specs.Reply.{noReport, openingReply}
 use Rattle.fw_parser.specs.Laws.Items.{opened-names}
 use Rattle.cut_short.specs.Shown.{EndedOpening, KeptOpening}
-use Rattle.cut_short.specs.ReadAfter.{readAfter}
+use Rattle.job_counts.specs.Counts.{countOf}
+use Rattle.jobs.specs.Jobs.{jobRead}
+use Rattle.jobs.specs.Laws.Steps.{accepted-job, job-read}
+use Rattle.jobs.specs.Laws.Carry.{job-kept}
+use Rattle.opened_board.specs.ReadAfter.{readAfter}
 use Rattle.cut_short.specs.Demand3.{Opens, Demand3}
 use Rattle.cut_short.specs.Laws.CutOpening.{EndedAny, Beside, open-cut}
 use Rattle.cut_short.specs.Laws.CutReads.{kept-like, read-kept}
@@ -72,7 +76,7 @@ module _ (s : Settings) where
   unfolding romRead
   unserved-refuses l count r x none h = go (outside s x) h
     where
-      go : (b : Bool) → (pick b (record { number = 1; bytes = []; count = count }) (readReply count r (run (readP (baseOf l) l count r) x))).number ≡ 0 → ⊥
+      go : (b : Bool) → (pick b (refusedReply 1 count) (readReply count r (run (readP (baseOf l) l count r) x))).number ≡ 0 → ⊥
       go true e = let z : ◌≡◌ {A = ℕ} 1 0 = e in omega arith
       go false e = read-unserved (baseOf l) l count r x none e
 
@@ -88,21 +92,27 @@ module _ (s : Settings) where
       ∙ ap (readReply count r) (sym (read-kept like (baseOf l) count r x k number))
       ∙ sym cut
 
-  -- what a refused opening handed back serves nothing
-  pub refused-refuses : (sets roms : List ℕ) (n count : ℕ) (r : RomRead) (x : List ℕ) → (readAfter s sets roms (refused n) count r x).number ≡ 0 → ⊥
-  unfolding openingReply noReport
-  refused-refuses sets roms n count r x h = unserved-refuses (lentBy (boardOf s noReport) sets roms) count r x refl h
+  -- nor by any job
+  pub unserved-job : (l : Lent) (job : ℕ) (counts : List ℕ) (r : RomRead) (x : List ℕ) → l.served ≡ 0 → (jobRead s.flash_base s.cs0_base l job counts r x).number ≡ 0 → ⊥
+  unserved-job l job counts r x none h =
+      let here = job-read s.flash_base s.cs0_base l job counts r x (accepted-job s.flash_base s.cs0_base l job counts r x h) in
+      unserved-refuses l (countOf job counts) r x none (ap (λ (t : Reply). t.number) (sym here) ∙ h)
 
-  reads-whole : (sets roms x : List ℕ) (k : ℕ) (o w : Opened) → outside s x ≡ false → Opens w → KeptOpening o w → (count : ℕ) (r : RomRead)
-      → (readAfter s sets roms o count r (take k x)).number ≡ 0 → readAfter s sets roms w count r x ≡ readAfter s sets roms o count r (take k x)
+  -- what a refused opening handed back serves nothing
+  pub refused-refuses : (sets roms : List ℕ) (n job : ℕ) (counts : List ℕ) (r : RomRead) (x : List ℕ) → (readAfter s sets roms (refused n) job counts r x).number ≡ 0 → ⊥
+  unfolding openingReply noReport
+  refused-refuses sets roms n job counts r x h = unserved-job (lentBy (boardOf s noReport) sets roms) job counts r x refl h
+
+  reads-whole : (sets roms x : List ℕ) (k : ℕ) (o w : Opened) → outside s x ≡ false → Opens w → KeptOpening o w → (job : ℕ) (counts : List ℕ) (r : RomRead)
+      → (readAfter s sets roms o job counts r (take k x)).number ≡ 0 → readAfter s sets roms w job counts r x ≡ readAfter s sets roms o job counts r (take k x)
   unfolding openingReply
-  reads-whole sets roms x k (refused n) w inside p kept count r h = absurd (refused-refuses sets roms n count r (take k x) h)
-  reads-whole sets roms x k (opened report ss names) (refused n) inside p kept count r h = absurd p
-  reads-whole sets roms x k (opened report ss names) (opened report' ss' names') inside p kept count r h =
+  reads-whole sets roms x k (refused n) w inside p kept job counts r h = absurd (refused-refuses sets roms n job counts r (take k x) h)
+  reads-whole sets roms x k (opened report ss names) (refused n) inside p kept job counts r h = absurd p
+  reads-whole sets roms x k (opened report ss names) (opened report' ss' names') inside p kept job counts r h =
       ⊎_elim
       (λ (e : (report.rom_sets.number ≡ 2) × (report.rom_sets.served ≡ 0)).
-      absurd (unserved-refuses (lentBy (boardOf s report) (overwritten (setRows ss) sets) (overwritten (romRows (romsOf ss) names) roms)) count r (take k x) e.1 h))
-      (λ e. read-whole (kept-like s kept sets roms e) count r x k inside h) kept.sets
+      absurd (unserved-job (lentBy (boardOf s report) (overwritten (setRows ss) sets) (overwritten (romRows (romsOf ss) names) roms)) job counts r (take k x) e.1 h))
+      (λ e. job-kept s.flash_base s.cs0_base _ _ r r job counts (take k x) x (λ count i. read-whole (kept-like s kept sets roms e) count r x k inside i) h) kept.sets
 
 pub demand3 : (s : Settings) (sets roms x : List ℕ) → Opens (opening s (length sets) (length roms) x) → (k : ℕ) → Demand3 s sets roms x k
 demand3 s sets roms x o k =

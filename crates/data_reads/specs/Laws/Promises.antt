@@ -13,7 +13,7 @@ use Rattle.set_data.specs.Laws.{stands-inside}
 use Rattle.data_reads.specs.Code.{placedOf}
 use Rattle.data_reads.specs.Laws.Steps.{placed-stands, data-accepted}
 
--- ROM data does not look at ROM rows: the statement of `read_rom_set_data`, which has none, holds with any
+-- ROM data does not look at ROM rows: the statement of `data_on_count`, which has none, holds with any
 pub no-rom-rows : (b : Board) (sets roms : List ℕ) (count set offset n : ℕ) (x : List ℕ)
     → romRead b.flash_base b.cs0_base (lentBy b sets roms) count (range set offset n) x ≡ romRead b.flash_base b.cs0_base (lentBy b sets []) count (range set offset n) x
 unfolding romRead readP storedP finished

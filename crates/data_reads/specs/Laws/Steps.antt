@@ -7,11 +7,11 @@ use borrow.Author.Tests.{ltb-true, ltb-false, lt-ltb, le-ltb, eqb-true, eqb-fals
 use Rattle.base.specs.Laws.{cases}
 use Rattle.window.specs.Window.{baseAfter, beyondWindow}
 use Rattle.info.specs.Lent.{Lent}
-use Rattle.info.specs.Reads.{countNumber, range, storedP, finished, Reply, readReply, romRead, bufferLeft}
+use Rattle.info.specs.Reads.{countNumber, range, storedP, finished, Reply, readReply, refusedReply, romRead, bufferLeft}
 use Rattle.set_data.specs.declared.SetData.{SetData}
 use Rattle.set_data.specs.declared.Found.{Found}
 use Rattle.set_data.specs.Code.{setData, notFound, foundOf}
-use Rattle.info.specs.Laws.Calls.{refusedReply, read-beyond, read-within}
+use Rattle.info.specs.Laws.Calls.{read-beyond, read-within}
 use Rattle.set_data.specs.Laws.{Stands, found-stands, stands-inside, bytesAt, data-found}
 use Rattle.data_reads.specs.Code.{placedOf}
 

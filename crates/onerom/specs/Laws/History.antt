@@ -1,80 +1,95 @@
--- Document 01, "ROM data": the served count that C and Rust lend, over any history of reads, each by any report, rows and image, altered or not.
+-- Document 02, wish 4, for the calls that C and Rust make: a history of reads, each by any report, rows and image, altered or not, that lends each read
+-- the eight counts as the last has left them.
 -- Assumes nothing.
-use Rattle.std.specs.Prelude.{ℕ, ◌+◌, ◌≤◌, ◌≡◌, Bool, List, [], ◌∷◌, eqb}
-use Rattle.std.proofs.Common.{arith, zero-add, ◌∙◌}
+use Rattle.std.specs.Prelude.{ℕ, ◌≤◌, ◌<◌, ◌≡◌, refl, Bool, true, false, List, [], ◌∷◌, eqb, length, get_or}
+use Rattle.std.proofs.Common.{sym, ap, ◌∙◌, ne_eqb}
 use Rattle.base.specs.Choice.{pick}
+use Rattle.machine.specs.Machine.{stateAfter}
 use Rattle.info.specs.Lent.{lentBy}
-use Rattle.info.specs.Reads.{range, byte, own}
-use Rattle.info.specs.Laws.History.{count-step, count-fits}
+use Rattle.info.specs.Reads.{range, byte, own, Reply, bufferLeft}
+use Rattle.byte_reads.specs.Calls.{byteOf}
+use Rattle.job_counts.specs.Counts.{countOf}
+use Rattle.jobs.specs.Jobs.{countsLeft}
+use Rattle.jobs.specs.Histories.{JobCall, readReplyOf, jobsBy}
+use Rattle.jobs.specs.Isolated.{Isolated, ByNoJob}
+use Rattle.jobs.specs.Laws.Steps.{refused-left, reply-count}
+use Rattle.jobs.specs.Laws.History.{by-no-job, isolated, count-within}
+use Rattle.c_board.specs.Value.{valueAfter}
 use Rattle.c_board.specs.Board.{levelsFrom, addressFrom}
 use Rattle.c_report.specs.declared.OneromReport.{OneromReport}
 use Rattle.c_handed.specs.Handed.{boardIn}
-use Rattle.c_reads.specs.Reads.{dataCall, byteCall}
-use Rattle.c_own.specs.Own.{ownCall}
+use Rattle.c_job_reads.specs.Reads.{dataCall, byteCall, ownCall}
 
--- a call of `onerom_read_rom_set_data`, of a byte read, or of the one by the set's own ROMs; all that is lent but the count, and of the buffer
--- its length
+-- a call of `onerom_read_rom_set_data`, of a byte read, or of the one by the set's own ROMs; all that is lent but the counts, with what the lent
+-- buffer or byte holds before
 pub data Call : Type 0 where
-  dataRead : (flashBase cs0Base : ℕ) → OneromReport → (sets : List ℕ) → (set offset n : ℕ) → (image : List ℕ) → Call
-  byteRead : (demangled : Bool) → (flashBase cs0Base : ℕ) → OneromReport → (sets roms : List ℕ) → (set logical address : ℕ) → (levels image : List ℕ) → Call
-  ownRead : (flashBase cs0Base : ℕ) → OneromReport → (sets roms : List ℕ) → (set address : ℕ) → (levels image : List ℕ) → Call
+  dataRead : (flashBase cs0Base : ℕ) → OneromReport → (sets : List ℕ) → (set offset : ℕ) → (buffer : List ℕ) → (job : ℕ) → (image : List ℕ) → Call
+  byteRead : (demangled : Bool) → (flashBase cs0Base : ℕ) → OneromReport → (sets roms : List ℕ) → (set logical address : ℕ) → (levels : List ℕ) → (job value : ℕ) → (image : List ℕ) → Call
+  ownRead : (flashBase cs0Base : ℕ) → OneromReport → (sets roms : List ℕ) → (set address : ℕ) → (levels : List ℕ) → (job value : ℕ) → (image : List ℕ) → Call
 
--- its number and the count that it leaves, as the statements say
-abbrev pub numberOf : ℕ → Call → ℕ
-numberOf count (dataRead f c report sets set offset n x) = (dataCall f c report sets set offset n count x).number
-numberOf count (byteRead d f c report sets roms set logical address levels x) = (byteCall d f c report sets roms set logical address levels count x).number
-numberOf count (ownRead f c report sets roms set address levels x) = (ownCall f c report sets roms set address levels count x).number
+-- what answers it, as the statements say
+abbrev pub answerTo : Call → (counts : List ℕ) → Reply
+answerTo (dataRead f c report sets set offset buffer job x) counts = dataCall f c report sets set offset (length buffer) job counts x
+answerTo (byteRead d f c report sets roms set logical address levels job value x) counts = byteCall d f c report sets roms set logical address levels job counts x
+answerTo (ownRead f c report sets roms set address levels job value x) counts = ownCall f c report sets roms set address levels job counts x
 
-abbrev pub countLeft : ℕ → Call → ℕ
-countLeft count (dataRead f c report sets set offset n x) = (dataCall f c report sets set offset n count x).count
-countLeft count (byteRead d f c report sets roms set logical address levels x) = (byteCall d f c report sets roms set logical address levels count x).count
-countLeft count (ownRead f c report sets roms set address levels x) = (ownCall f c report sets roms set address levels count x).count
+-- the read that it is
+abbrev pub readIs : Call → JobCall
+readIs (dataRead f c report sets set offset buffer job x) =
+    record { flashBase = f; cs0Base = c; lent = lentBy (boardIn f c report) sets []; job = job; read = range set offset (length buffer); buffer = buffer; image = x }
+readIs (byteRead d f c report sets roms set logical address levels job value x) =
+    record { flashBase = f; cs0Base = c; lent = lentBy (boardIn f c report) sets roms; job = job; read = byte set (addressFrom logical address levels) d; buffer = value ∷ []; image = x }
+readIs (ownRead f c report sets roms set address levels job value x) =
+    record { flashBase = f; cs0Base = c; lent = lentBy (boardIn f c report) sets roms; job = job; read = own set address (levelsFrom levels); buffer = value ∷ []; image = x }
 
-abbrev pub bytesOf : Call → ℕ
-bytesOf (dataRead f c report sets set offset n x) = n
-bytesOf (byteRead d f c report sets roms set logical address levels x) = 1
-bytesOf (ownRead f c report sets roms set address levels x) = 1
-
--- the count after a history of calls, and the lengths of those that were accepted
-unfoldable pub countAfterCalls : ℕ → List Call → ℕ
-countAfterCalls count [] = count
-countAfterCalls count (c ∷ cs) = countAfterCalls (countLeft count c) cs
-
-unfoldable pub acceptedBytes : ℕ → List Call → ℕ
-acceptedBytes count [] = 0
-acceptedBytes count (c ∷ cs) = pick (eqb (numberOf count c) 0) (bytesOf c) 0 + acceptedBytes (countLeft count c) cs
-
--- ---- an accepted call adds its bytes, a refused one nothing
-
-call-step : (count : ℕ) (c : Call) → countLeft count c ≡ count + pick (eqb (numberOf count c) 0) (bytesOf c) 0
+answered : (c : Call) (counts : List ℕ) → answerTo c counts ≡ readReplyOf (readIs c) counts
 unfolding dataCall byteCall ownCall
-call-step count (dataRead f c report sets set offset n x) = count-step f c (lentBy (boardIn f c report) sets []) x count (range set offset n)
-call-step count (byteRead d f c report sets roms set logical address levels x) =
-    count-step f c (lentBy (boardIn f c report) sets roms) x count (byte set (addressFrom logical address levels) d)
-call-step count (ownRead f c report sets roms set address levels x) =
-    count-step f c (lentBy (boardIn f c report) sets roms) x count (own set address (levelsFrom levels))
+answered (dataRead f c report sets set offset buffer job x) counts = refl
+answered (byteRead d f c report sets roms set logical address levels job value x) counts = refl
+answered (ownRead f c report sets roms set address levels job value x) counts = refl
 
-calls-sum : (count : ℕ) (cs : List Call) → countAfterCalls count cs ≡ count + acceptedBytes count cs
-unfolding countAfterCalls acceptedBytes
-calls-sum count [] = omega arith
-calls-sum count (c ∷ cs) =
-    let a = call-step count c in
-    let b = calls-sum (countLeft count c) cs in
-    omega arith
+-- What the machine of histories gives to a call is what its statement says: the number, the buffer or the lent byte, all eight counts; and the count in
+-- its reply is the job's own of these.
+pub record AsStated (c : Call) (counts : List ℕ) : Type 0 where
+  pub number : ((jobsBy readIs).reply c counts).number ≡ (answerTo c counts).number
+  pub buffer : ((jobsBy readIs).reply c counts).buffer ≡ bufferLeft (answerTo c counts) (readIs c).buffer
+  pub counts-left : (jobsBy readIs).next c counts ≡ countsLeft (readIs c).job counts (answerTo c counts)
+  pub its-count : length counts ≡ 8 → ((jobsBy readIs).reply c counts).count ≡ countOf (readIs c).job (countsLeft (readIs c).job counts (answerTo c counts))
 
--- since the opening, whose count is 0
-pub calls-count : (cs : List Call) → countAfterCalls 0 cs ≡ acceptedBytes 0 cs
-calls-count cs = calls-sum 0 cs ∙ zero-add (acceptedBytes 0 cs)
+pub as-stated : (c : Call) (counts : List ℕ) → AsStated c counts
+as-stated c counts =
+    let e = answered c counts in
+    let d = readIs c in
+    record {
+      number = ap (λ (t : Reply). t.number) (sym e);
+      buffer = ap (λ (t : Reply). bufferLeft t d.buffer) (sym e);
+      counts-left = ap (countsLeft d.job counts) (sym e);
+      its-count = λ eight. reply-count d.flashBase d.cs0Base d.lent d.job counts d.read d.image eight ∙ ap (λ (t : Reply). countOf d.job (countsLeft d.job counts t)) (sym e);
+    }
 
-call-fits : (count : ℕ) (c : Call) → count ≤ 4294967295 → countLeft count c ≤ 4294967295
-unfolding dataCall byteCall ownCall
-call-fits count (dataRead f c report sets set offset n x) h = count-fits f c (lentBy (boardIn f c report) sets []) x count (range set offset n) h
-call-fits count (byteRead d f c report sets roms set logical address levels x) h =
-    count-fits f c (lentBy (boardIn f c report) sets roms) x count (byte set (addressFrom logical address levels) d) h
-call-fits count (ownRead f c report sets roms set address levels x) h =
-    count-fits f c (lentBy (boardIn f c report) sets roms) x count (own set address (levelsFrom levels)) h
+-- of a byte read the buffer is the lent byte
+pub lent-byte : (t : Reply) (before : ℕ) → get_or (bufferLeft t (before ∷ [])) 0 0 ≡ valueAfter t.number (byteOf t).byte before
+lent-byte t before = go (eqb t.number 0)
+  where
+    go : (b : Bool) → get_or (pick b t.bytes (before ∷ [])) 0 0 ≡ pick b (get_or t.bytes 0 0) before
+    go true = refl
+    go false = refl
 
-pub calls-fit : (count : ℕ) → count ≤ 4294967295 → (cs : List Call) → countAfterCalls count cs ≤ 4294967295
-unfolding countAfterCalls
-calls-fit count h [] = h
-calls-fit count h (c ∷ cs) = calls-fit (countLeft count c) (call-fits count c h) cs
+-- a refused call leaves all eight counts, and every byte that it is lent
+pub refused-leaves : (c : Call) (counts : List ℕ) → ((answerTo c counts).number ≡ 0 → ⊥)
+    → (countsLeft (readIs c).job counts (answerTo c counts) ≡ counts) × (bufferLeft (answerTo c counts) (readIs c).buffer ≡ (readIs c).buffer)
+refused-leaves c counts h = (refused-left (readIs c).job counts (answerTo c counts) h, rw (ne_eqb (answerTo c counts).number 0 h))
+
+-- ---- the promises, whatever report, rows and image a call is given
+
+module _ (h : List Call) (j : ℕ) (below : j < 8) (counts : List ℕ) (eight : length counts ≡ 8) where
+  -- replies and count of a job are those of its own calls by themselves; its count grows by its accepted lengths
+  pub calls-isolated : Isolated readIs counts h j
+  calls-isolated = isolated readIs j below counts eight h
+
+  pub calls-fit : countOf j counts ≤ 4294967295 → countOf j (stateAfter (jobsBy readIs) counts h) ≤ 4294967295
+  calls-fit fits = count-within readIs j below counts eight fits h
+
+-- a call by a job of 8 or more
+pub calls-by-no-job : (c : Call) (counts : List ℕ) → 8 ≤ (readIs c).job → ByNoJob (readIs c) counts
+calls-by-no-job c counts h = by-no-job (readIs c) counts h

@@ -1,119 +1,107 @@
 -- Demand 3 for the calls that C and Rust make, in one place, and of demand 1 what a refused read leaves. (Of the opening: fw_parser/Laws/Promises.)
 -- `onerom_open` ensures: its reply is `openingOut (openCall …)`, the rows afterwards are `setRowsLeft (openCall …)` and `romRowsLeft (openCall …)`.
--- `onerom_read_rom_set_data` ensures number, count and buffer of `dataCall …`; the byte reads those of `byteCall …`, the one by the set's own ROMs
--- those of `ownCall …`. All are `romRead` with what the handed-back report says (`boardIn`). The image and rows of a read are lent for reading only.
--- `openCall` is `opening`, of which `demand3` speaks, and the reads are the `romRead` of which it speaks.
+-- `onerom_read_rom_set_data` ensures number, counts and buffer of `dataCall …`; the byte reads number, counts and lent byte of `byteCall …`, the one
+-- by the set's own ROMs those of `ownCall …`. All are `jobRead` with what the handed-back report says (`boardIn`). The image and rows of a read are
+-- lent for reading only. `openCall` is `opening`, of which `demand3` speaks, and the reads are the `jobRead` of which it speaks.
 -- Assumes nothing.
-use Rattle.std.specs.Prelude.{ℕ, ◌≡◌, refl, Bool, true, false, List, [], take}
-use Rattle.std.proofs.Common.{sym, ◌∙◌, ne_eqb}
+use Rattle.std.specs.Prelude.{ℕ, ◌≡◌, refl, Bool, true, false, List, [], leb, take}
+use Rattle.std.proofs.lemmas.Bool.{leb-true, leb-false}
+use Rattle.base.specs.Laws.{cases}
+use Rattle.base.specs.Choice.{pick}
+use Rattle.std.proofs.Common.{sym, ◌∙◌}
 use Rattle.std.proofs.Math.Path.{ap}
-use Rattle.window.specs.Window.{baseAfter}
+use Rattle.window.specs.Window.{baseAfter, beyondWindow}
 use Rattle.types.specs.declared.McuLine.{McuLine}
 use Rattle.board.specs.declared.BoardPins.{BoardPins}
 use Rattle.board.specs.Board.{boardPins}
 use Rattle.info.specs.declared.SdrrAddress.{SdrrAddress}
 use Rattle.info.specs.Lent.{Lent, lentBy}
-use Rattle.info.specs.Reads.{RomRead, range, byte, own, shownByte, storedP, finished, readP, Reply, romRead, bufferLeft}
-use Rattle.byte_reads.specs.declared.ByteRead.{ByteRead}
-use Rattle.byte_reads.specs.Calls.{byteOf}
-use Rattle.info.specs.Laws.History.{refused-changes-nothing}
+use Rattle.info.specs.Reads.{RomRead, range, byte, own, shownByte, storedP, finished, readP, Reply, refusedReply, romRead}
+use Rattle.job_counts.specs.Counts.{countOf}
+use Rattle.jobs.specs.Jobs.{jobRead}
+use Rattle.jobs.specs.Laws.Steps.{no-job-read, job-read}
+use Rattle.jobs.specs.Laws.Carry.{job-same, job-kept}
 use Rattle.window.specs.declared.Settings.{Settings}
 use Rattle.sdrr_info.specs.declared.SdrrInfo.{SdrrInfo}
 use Rattle.sdrr_info.specs.Report.{boardOf}
 use Rattle.fw_parser.specs.Opening.{Opened, refused, setRowsLeft, romRowsLeft}
 use Rattle.fw_parser.specs.Reply.{openingReply}
-use Rattle.cut_short.specs.ReadAfter.{readAfter}
+use Rattle.opened_board.specs.ReadAfter.{readAfter}
 use Rattle.cut_short.specs.Demand3.{Opens, Demand3}
 use Rattle.cut_short.specs.Laws.Proof.{demand3, refused-refuses}
 use Rattle.c_board.specs.Board.{levelsFrom, addressFrom}
-use Rattle.c_board.specs.Value.{valueAfter}
 use Rattle.c_report.specs.declared.OneromReport.{OneromReport}
 use Rattle.c_report.specs.Report.{reportOut}
 use Rattle.c_handed.specs.Handed.{boardIn}
 use Rattle.c_handed.specs.Laws.{handed-back}
 use Rattle.c_open.specs.Opening.{openCall, openingOut}
-use Rattle.c_reads.specs.Reads.{dataCall, byteCall}
-use Rattle.c_own.specs.Own.{ownCall}
+use Rattle.c_job_reads.specs.Reads.{dataCall, byteCall, ownCall}
 use Rattle.own_reads.specs.Laws.Set0.{partedNumber, set-0-new, set-0-old, set-0-parted}
 
--- ---- the reads as they are called: each is a `romRead` by the report and rows as lent
+-- ---- the reads as they are called: each is the read of a job, by the report and rows as lent
 
 -- ROM data is given no ROM rows; with any its answer is the same
-pub data-is-read : (f c : ℕ) (report : OneromReport) (sets roms : List ℕ) (set offset n count : ℕ) (x : List ℕ)
-    → dataCall f c report sets set offset n count x ≡ romRead f c (lentBy (boardIn f c report) sets roms) count (range set offset n) x
-unfolding dataCall romRead readP storedP finished
-data-is-read f c report sets roms set offset n count x = refl
+pub data-is-read : (f c : ℕ) (report : OneromReport) (sets roms : List ℕ) (set offset n job : ℕ) (counts x : List ℕ)
+    → dataCall f c report sets set offset n job counts x ≡ jobRead f c (lentBy (boardIn f c report) sets roms) job counts (range set offset n) x
+unfolding dataCall jobRead romRead readP storedP finished
+data-is-read f c report sets roms set offset n job counts x = refl
 
-pub byte-is-read : (demangled : Bool) (f c : ℕ) (report : OneromReport) (sets roms : List ℕ) (set logical address : ℕ) (levels : List ℕ) (count : ℕ) (x : List ℕ)
-    → byteCall demangled f c report sets roms set logical address levels count x
-    ≡ byteOf (romRead f c (lentBy (boardIn f c report) sets roms) count (byte set (addressFrom logical address levels) demangled) x)
+pub byte-is-read : (demangled : Bool) (f c : ℕ) (report : OneromReport) (sets roms : List ℕ) (set logical address : ℕ) (levels : List ℕ) (job : ℕ) (counts x : List ℕ)
+    → byteCall demangled f c report sets roms set logical address levels job counts x
+    ≡ jobRead f c (lentBy (boardIn f c report) sets roms) job counts (byte set (addressFrom logical address levels) demangled) x
 unfolding byteCall
-byte-is-read demangled f c report sets roms set logical address levels count x = refl
+byte-is-read demangled f c report sets roms set logical address levels job counts x = refl
 
--- the byte of any read by a report handed back
-abbrev oneByte : (f c : ℕ) → OneromReport → (sets roms : List ℕ) → (count : ℕ) → RomRead → List ℕ → ByteRead
-oneByte f c report sets roms count r x = byteOf (romRead f c (lentBy (boardIn f c report) sets roms) count r x)
-
-pub own-is-read : (f c : ℕ) (report : OneromReport) (sets roms : List ℕ) (set address : ℕ) (levels : List ℕ) (count : ℕ) (x : List ℕ)
-    → ownCall f c report sets roms set address levels count x
-    ≡ byteOf (romRead f c (lentBy (boardIn f c report) sets roms) count (own set address (levelsFrom levels)) x)
+pub own-is-read : (f c : ℕ) (report : OneromReport) (sets roms : List ℕ) (set address : ℕ) (levels : List ℕ) (job : ℕ) (counts x : List ℕ)
+    → ownCall f c report sets roms set address levels job counts x
+    ≡ jobRead f c (lentBy (boardIn f c report) sets roms) job counts (own set address (levelsFrom levels)) x
 unfolding ownCall
-own-is-read f c report sets roms set address levels count x = refl
-
--- a refused read of ROM data leaves the count and every byte of the lent buffer
-pub refused-data : (f c : ℕ) (report : OneromReport) (sets : List ℕ) (set offset n count : ℕ) (x buffer : List ℕ) → ((dataCall f c report sets set offset n count x).number ≡ 0 → ⊥)
-    → ((dataCall f c report sets set offset n count x).count ≡ count) × (bufferLeft (dataCall f c report sets set offset n count x) buffer ≡ buffer)
-unfolding dataCall
-refused-data f c report sets set offset n count x buffer h =
-    let kept = refused-changes-nothing f c (lentBy (boardIn f c report) sets []) x count buffer (range set offset n) h in
-    (kept.count-kept, kept.buffer-kept)
-
--- a refused byte read leaves the count, and the lent byte
-refused-one : (f c : ℕ) (report : OneromReport) (sets roms : List ℕ) (count : ℕ) (r : RomRead) (x : List ℕ) (before : ℕ) → ((oneByte f c report sets roms count r x).number ≡ 0 → ⊥)
-    → ((oneByte f c report sets roms count r x).count ≡ count)
-    × (valueAfter (oneByte f c report sets roms count r x).number (oneByte f c report sets roms count r x).byte before ≡ before)
-refused-one f c report sets roms count r x before h =
-    let l = lentBy (boardIn f c report) sets roms in
-    ((refused-changes-nothing f c l x count [] r h).count-kept, rw (ne_eqb (romRead f c l count r x).number 0 h))
-
-pub refused-byte : (demangled : Bool) (f c : ℕ) (report : OneromReport) (sets roms : List ℕ) (set logical address : ℕ) (levels : List ℕ) (count : ℕ) (x : List ℕ) (before : ℕ)
-    → ((byteCall demangled f c report sets roms set logical address levels count x).number ≡ 0 → ⊥)
-    → ((byteCall demangled f c report sets roms set logical address levels count x).count ≡ count)
-    × (valueAfter (byteCall demangled f c report sets roms set logical address levels count x).number (byteCall demangled f c report sets roms set logical address levels count x).byte before ≡ before)
-unfolding byteCall
-refused-byte demangled f c report sets roms set logical address levels count x before h =
-    refused-one f c report sets roms count (byte set (addressFrom logical address levels) demangled) x before h
-
-pub refused-own : (f c : ℕ) (report : OneromReport) (sets roms : List ℕ) (set address : ℕ) (levels : List ℕ) (count : ℕ) (x : List ℕ) (before : ℕ)
-    → ((ownCall f c report sets roms set address levels count x).number ≡ 0 → ⊥)
-    → ((ownCall f c report sets roms set address levels count x).count ≡ count)
-    × (valueAfter (ownCall f c report sets roms set address levels count x).number (ownCall f c report sets roms set address levels count x).byte before ≡ before)
-unfolding ownCall
-refused-own f c report sets roms set address levels count x before h =
-    refused-one f c report sets roms count (own set address (levelsFrom levels)) x before h
+own-is-read f c report sets roms set address levels job counts x = refl
 
 -- ---- wish 1: on set 0 `onerom_read_rom_byte_own` and the old read, `onerom_read_rom_byte_demangled` by a logical address
 
-module _ (f c : ℕ) (report : OneromReport) (sets roms : List ℕ) (address : ℕ) (levels : List ℕ) (count : ℕ) (x : List ℕ) where
-  abbrev newCall : ByteRead
-  newCall = ownCall f c report sets roms 0 address levels count x
+module _ (f c : ℕ) (report : OneromReport) (sets roms : List ℕ) (address : ℕ) (levels : List ℕ) (job : ℕ) (counts x : List ℕ) where
+  abbrev board : Lent
+  board = lentBy (boardIn f c report) sets roms
 
-  abbrev oldCall : ByteRead
-  oldCall = byteCall true f c report sets roms 0 1 address levels count x
+  abbrev newCall : Reply
+  newCall = ownCall f c report sets roms 0 address levels job counts x
 
-  -- the new one accepts exactly if the old one does, and then byte and count are equal
+  abbrev oldCall : Reply
+  oldCall = byteCall true f c report sets roms 0 1 address levels job counts x
+
+  -- the new one accepts exactly if the old one does, and then the replies are equal
   pub own-accepts : newCall.number ≡ 0 → newCall ≡ oldCall
   unfolding ownCall byteCall
-  own-accepts e = ap byteOf (set-0-new f c (lentBy (boardIn f c report) sets roms) count x address (levelsFrom levels) e)
+  own-accepts e =
+      sym (job-kept f c board board _ _ job counts x x (λ count h. sym (set-0-new f c board count x address (levelsFrom levels) h)) e)
 
   pub old-accepts : oldCall.number ≡ 0 → newCall ≡ oldCall
   unfolding ownCall byteCall
-  old-accepts e = ap byteOf (set-0-old f c (lentBy (boardIn f c report) sets roms) count x address (levelsFrom levels) e)
+  old-accepts e = job-kept f c board board _ _ job counts x x (λ count h. set-0-old f c board count x address (levelsFrom levels) h) e
 
-  -- in every case byte and count are equal, and the number is the old one's, parted as said
-  pub own-parted : newCall ≡ record { number = partedNumber (lentBy (boardIn f c report) sets roms) oldCall.number; byte = oldCall.byte; count = oldCall.count }
+  -- in every case bytes and count are equal, and the number is the old one's, parted as said
+  pub own-parted : newCall ≡ record { number = partedNumber board oldCall.number; bytes = oldCall.bytes; count = oldCall.count }
   unfolding ownCall byteCall
-  own-parted = ap byteOf (set-0-parted f c (lentBy (boardIn f c report) sets roms) count x address (levelsFrom levels))
+  own-parted =
+      cases (leb 8 job)
+      (λ h.
+      let past = leb-true 8 job h in
+      rw (no-job-read f c board job counts newRead x past, no-job-read f c board job counts oldRead x past) (go (beyondWindow f c x)))
+      (λ h.
+      let below = leb-false 8 job h in
+      rw (job-read f c board job counts newRead x below, job-read f c board job counts oldRead x below)
+      (set-0-parted f c board (countOf job counts) x address (levelsFrom levels)))
+    where
+      newRead : RomRead
+      newRead = own 0 address (levelsFrom levels)
+
+      oldRead : RomRead
+      oldRead = byte 0 (SdrrAddress.Logical address (levelsFrom levels)) true
+
+      go : (b : Bool) → refusedReply (pick b 1 83) (countOf job counts) ≡ record { number = partedNumber board (pick b 1 83); bytes = []; count = countOf job counts }
+      go true = refl
+      go false = refl
 
 -- ---- a report handed back unaltered: the reads are those of the opening's report
 
@@ -152,47 +140,45 @@ module _ (f c : ℕ) (sets roms : List ℕ) where
   abbrev settings : ℕ → Settings
   settings o = record { flash_base = f; cs0_base = c; info_offset = o }
 
-  abbrev pub dataAfter : Opened → (set offset n count : ℕ) → List ℕ → Reply
-  dataAfter p set offset n count x = dataCall f c (openingOut p).report (setRowsLeft p sets) set offset n count x
+  abbrev pub dataAfter : Opened → (set offset n job : ℕ) → (counts x : List ℕ) → Reply
+  dataAfter p set offset n job counts x = dataCall f c (openingOut p).report (setRowsLeft p sets) set offset n job counts x
 
-  abbrev pub byteAfter : Bool → Opened → (set logical address : ℕ) → (levels : List ℕ) → (count : ℕ) → List ℕ → ByteRead
-  byteAfter demangled p set logical address levels count x =
-      byteCall demangled f c (openingOut p).report (setRowsLeft p sets) (romRowsLeft p roms) set logical address levels count x
+  abbrev pub byteAfter : Bool → Opened → (set logical address : ℕ) → (levels : List ℕ) → (job : ℕ) → (counts x : List ℕ) → Reply
+  byteAfter demangled p set logical address levels job counts x =
+      byteCall demangled f c (openingOut p).report (setRowsLeft p sets) (romRowsLeft p roms) set logical address levels job counts x
 
-  abbrev pub ownAfter : Opened → (set address : ℕ) → (levels : List ℕ) → (count : ℕ) → List ℕ → ByteRead
-  ownAfter p set address levels count x = ownCall f c (openingOut p).report (setRowsLeft p sets) (romRowsLeft p roms) set address levels count x
+  abbrev pub ownAfter : Opened → (set address : ℕ) → (levels : List ℕ) → (job : ℕ) → (counts x : List ℕ) → Reply
+  ownAfter p set address levels job counts x = ownCall f c (openingOut p).report (setRowsLeft p sets) (romRowsLeft p roms) set address levels job counts x
 
   -- they are the reads of which demand 3 speaks
-  data-after : (o : ℕ) (p : Opened) (set offset n count : ℕ) (x : List ℕ)
-      → dataAfter p set offset n count x ≡ readAfter (settings o) sets roms p count (range set offset n) x
-  data-after o p set offset n count x =
-      data-is-read f c (openingOut p).report (setRowsLeft p sets) (romRowsLeft p roms) set offset n count x
-      ∙ handed-read (settings o) f c (openingReply p).info (setRowsLeft p sets) (romRowsLeft p roms) count (range set offset n) x
+  abbrev anyAfter : Opened → (job : ℕ) → (counts : List ℕ) → RomRead → List ℕ → Reply
+  anyAfter p job counts r x = jobRead f c (lentBy (boardIn f c (openingOut p).report) (setRowsLeft p sets) (romRowsLeft p roms)) job counts r x
 
-  abbrev oneAfter : Opened → (count : ℕ) → RomRead → List ℕ → ByteRead
-  oneAfter p count r x = oneByte f c (openingOut p).report (setRowsLeft p sets) (romRowsLeft p roms) count r x
+  any-after : (o : ℕ) (p : Opened) (job : ℕ) (counts : List ℕ) (r : RomRead) (x : List ℕ) → anyAfter p job counts r x ≡ readAfter (settings o) sets roms p job counts r x
+  any-after o p job counts r x =
+      job-same f c _ _ r r job counts x (λ count. handed-read (settings o) f c (openingReply p).info (setRowsLeft p sets) (romRowsLeft p roms) count r x)
 
-  one-after : (o : ℕ) (p : Opened) (count : ℕ) (r : RomRead) (x : List ℕ) → oneAfter p count r x ≡ byteOf (readAfter (settings o) sets roms p count r x)
-  one-after o p count r x = ap byteOf (handed-read (settings o) f c (openingReply p).info (setRowsLeft p sets) (romRowsLeft p roms) count r x)
+  data-any : (p : Opened) (set offset n job : ℕ) (counts x : List ℕ) → dataAfter p set offset n job counts x ≡ anyAfter p job counts (range set offset n) x
+  data-any p set offset n job counts x = data-is-read f c (openingOut p).report (setRowsLeft p sets) (romRowsLeft p roms) set offset n job counts x
 
   -- what a refused opening handed back serves no read
-  pub refused-serves-no-data : (n set offset m count : ℕ) (x : List ℕ) → (dataAfter (refused n) set offset m count x).number ≡ 0 → ⊥
-  refused-serves-no-data n set offset m count x h =
-      refused-refuses (settings 0) sets roms n count (range set offset m) x (ap (λ (t : Reply). t.number) (sym (data-after 0 (refused n) set offset m count x)) ∙ h)
+  refused-serves-none : (n job : ℕ) (counts : List ℕ) (r : RomRead) (x : List ℕ) → (anyAfter (refused n) job counts r x).number ≡ 0 → ⊥
+  refused-serves-none n job counts r x h =
+      refused-refuses (settings 0) sets roms n job counts r x (ap (λ (t : Reply). t.number) (sym (any-after 0 (refused n) job counts r x)) ∙ h)
 
-  refused-serves-none : (n count : ℕ) (r : RomRead) (x : List ℕ) → (oneAfter (refused n) count r x).number ≡ 0 → ⊥
-  refused-serves-none n count r x h =
-      refused-refuses (settings 0) sets roms n count r x (ap (λ (t : ByteRead). t.number) (sym (one-after 0 (refused n) count r x)) ∙ h)
+  pub refused-serves-no-data : (n set offset m job : ℕ) (counts x : List ℕ) → (dataAfter (refused n) set offset m job counts x).number ≡ 0 → ⊥
+  refused-serves-no-data n set offset m job counts x h =
+      refused-serves-none n job counts (range set offset m) x (ap (λ (t : Reply). t.number) (sym (data-any (refused n) set offset m job counts x)) ∙ h)
 
-  pub refused-serves-no-byte : (demangled : Bool) (n set logical address : ℕ) (levels : List ℕ) (count : ℕ) (x : List ℕ)
-      → (byteAfter demangled (refused n) set logical address levels count x).number ≡ 0 → ⊥
+  pub refused-serves-no-byte : (demangled : Bool) (n set logical address : ℕ) (levels : List ℕ) (job : ℕ) (counts x : List ℕ)
+      → (byteAfter demangled (refused n) set logical address levels job counts x).number ≡ 0 → ⊥
   unfolding byteCall
-  refused-serves-no-byte demangled n set logical address levels count x h =
-      refused-serves-none n count (byte set (addressFrom logical address levels) demangled) x h
+  refused-serves-no-byte demangled n set logical address levels job counts x h =
+      refused-serves-none n job counts (byte set (addressFrom logical address levels) demangled) x h
 
-  pub refused-serves-no-own : (n set address : ℕ) (levels : List ℕ) (count : ℕ) (x : List ℕ) → (ownAfter (refused n) set address levels count x).number ≡ 0 → ⊥
+  pub refused-serves-no-own : (n set address : ℕ) (levels : List ℕ) (job : ℕ) (counts x : List ℕ) → (ownAfter (refused n) set address levels job counts x).number ≡ 0 → ⊥
   unfolding ownCall
-  refused-serves-no-own n set address levels count x h = refused-serves-none n count (own set address (levelsFrom levels)) x h
+  refused-serves-no-own n set address levels job counts x h = refused-serves-none n job counts (own set address (levelsFrom levels)) x h
 
   module _ (o : ℕ) (x : List ℕ) (opens : Opens (openCall f c o sets roms x)) (k : ℕ) where
     abbrev cut : Opened
@@ -206,24 +192,24 @@ module _ (f c : ℕ) (sets roms : List ℕ) where
     cut-short = demand3 (settings o) sets roms x opens k
 
     -- a call that the cut image answers with number 0, the whole answers with the same number, bytes and count
-    pub data-kept : (set offset n count : ℕ) → (dataAfter cut set offset n count (take k x)).number ≡ 0
-        → dataAfter whole set offset n count x ≡ dataAfter cut set offset n count (take k x)
-    data-kept set offset n count h =
-        let e = data-after o cut set offset n count (take k x) in
-        data-after o whole set offset n count x
-        ∙ cut-short.reads-kept count (range set offset n) (ap (λ (t : Reply). t.number) (sym e) ∙ h) ∙ sym e
+    any-kept : (job : ℕ) (counts : List ℕ) (r : RomRead) → (anyAfter cut job counts r (take k x)).number ≡ 0 → anyAfter whole job counts r x ≡ anyAfter cut job counts r (take k x)
+    any-kept job counts r h =
+        let e = any-after o cut job counts r (take k x) in
+        any-after o whole job counts r x ∙ cut-short.reads-kept job counts r (ap (λ (t : Reply). t.number) (sym e) ∙ h) ∙ sym e
 
-    one-kept : (count : ℕ) (r : RomRead) → (oneAfter cut count r (take k x)).number ≡ 0 → oneAfter whole count r x ≡ oneAfter cut count r (take k x)
-    one-kept count r h =
-        let e = one-after o cut count r (take k x) in
-        one-after o whole count r x ∙ ap byteOf (cut-short.reads-kept count r (ap (λ (t : ByteRead). t.number) (sym e) ∙ h)) ∙ sym e
+    pub data-kept : (set offset n job : ℕ) (counts : List ℕ) → (dataAfter cut set offset n job counts (take k x)).number ≡ 0
+        → dataAfter whole set offset n job counts x ≡ dataAfter cut set offset n job counts (take k x)
+    data-kept set offset n job counts h =
+        let e = data-any cut set offset n job counts (take k x) in
+        data-any whole set offset n job counts x ∙ any-kept job counts (range set offset n) (ap (λ (t : Reply). t.number) (sym e) ∙ h) ∙ sym e
 
-    pub byte-kept : (demangled : Bool) (set logical address : ℕ) (levels : List ℕ) (count : ℕ) → (byteAfter demangled cut set logical address levels count (take k x)).number ≡ 0
-        → byteAfter demangled whole set logical address levels count x ≡ byteAfter demangled cut set logical address levels count (take k x)
+    pub byte-kept : (demangled : Bool) (set logical address : ℕ) (levels : List ℕ) (job : ℕ) (counts : List ℕ)
+        → (byteAfter demangled cut set logical address levels job counts (take k x)).number ≡ 0
+        → byteAfter demangled whole set logical address levels job counts x ≡ byteAfter demangled cut set logical address levels job counts (take k x)
     unfolding byteCall
-    byte-kept demangled set logical address levels count h = one-kept count (byte set (addressFrom logical address levels) demangled) h
+    byte-kept demangled set logical address levels job counts h = any-kept job counts (byte set (addressFrom logical address levels) demangled) h
 
-    pub own-kept : (set address : ℕ) (levels : List ℕ) (count : ℕ) → (ownAfter cut set address levels count (take k x)).number ≡ 0
-        → ownAfter whole set address levels count x ≡ ownAfter cut set address levels count (take k x)
+    pub own-kept : (set address : ℕ) (levels : List ℕ) (job : ℕ) (counts : List ℕ) → (ownAfter cut set address levels job counts (take k x)).number ≡ 0
+        → ownAfter whole set address levels job counts x ≡ ownAfter cut set address levels job counts (take k x)
     unfolding ownCall
-    own-kept set address levels count h = one-kept count (own set address (levelsFrom levels)) h
+    own-kept set address levels job counts h = any-kept job counts (own set address (levelsFrom levels)) h

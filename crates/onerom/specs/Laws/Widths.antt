@@ -2,14 +2,13 @@
 -- looks at one.
 -- Assumes nothing.
 use Rattle.std.specs.Prelude.{ℕ, ◌<◌, ◌≡◌, ◌⊎◌, Bool, List, length, take}
-use Rattle.std.proofs.Common.{ap}
 use Rattle.rows.specs.LentRows.{nameReason}
 use Rattle.rows.specs.Laws.{widthAltered, altered-length, altered-types}
 use Rattle.walk.specs.Walk.{romsOf}
 use Rattle.window.specs.declared.Settings.{Settings}
 use Rattle.info.specs.Reads.{byte, own}
 use Rattle.info.specs.Laws.RomRows.{mangle-by-types, width-altered-reads}
-use Rattle.byte_reads.specs.Calls.{byteOf}
+use Rattle.jobs.specs.Laws.Carry.{job-same}
 use Rattle.same_set.specs.Same.{sameSet}
 use Rattle.same_set.specs.Laws.{width-altered-same}
 use Rattle.fw_parser.specs.Opening.{romRowsLeft}
@@ -20,8 +19,7 @@ use Rattle.c_board.specs.Board.{levelsFrom, addressFrom}
 use Rattle.c_report.specs.declared.OneromReport.{OneromReport}
 use Rattle.c_handed.specs.Handed.{boardIn}
 use Rattle.c_open.specs.Opening.{openCall, openingOut}
-use Rattle.c_reads.specs.Reads.{byteCall}
-use Rattle.c_own.specs.Own.{ownCall}
+use Rattle.c_job_reads.specs.Reads.{byteCall, ownCall}
 use Rattle.c_mangle.specs.Board.{mangleCall}
 
 -- ---- what the opening hands out
@@ -49,18 +47,18 @@ names-kept f c o sets roms x k whole e row l =
 -- ---- lent with another width every call gives the same answer. ROM data and size are given no ROM rows.
 
 module _ (roms : List ℕ) (row width : ℕ) where
-  pub byte-width-altered : (demangled : Bool) (f c : ℕ) (report : OneromReport) (sets : List ℕ) (set logical address : ℕ) (levels : List ℕ) (count : ℕ) (x : List ℕ)
-      → byteCall demangled f c report sets (widthAltered roms row width) set logical address levels count x
-      ≡ byteCall demangled f c report sets roms set logical address levels count x
+  pub byte-width-altered : (demangled : Bool) (f c : ℕ) (report : OneromReport) (sets : List ℕ) (set logical address : ℕ) (levels : List ℕ) (job : ℕ) (counts x : List ℕ)
+      → byteCall demangled f c report sets (widthAltered roms row width) set logical address levels job counts x
+      ≡ byteCall demangled f c report sets roms set logical address levels job counts x
   unfolding byteCall
-  byte-width-altered demangled f c report sets set logical address levels count x =
-      ap byteOf (width-altered-reads roms row width (boardIn f c report) sets f c count (byte set (addressFrom logical address levels) demangled) x)
+  byte-width-altered demangled f c report sets set logical address levels job counts x =
+      job-same f c _ _ _ _ job counts x (λ count. width-altered-reads roms row width (boardIn f c report) sets f c count (byte set (addressFrom logical address levels) demangled) x)
 
-  pub own-width-altered : (f c : ℕ) (report : OneromReport) (sets : List ℕ) (set address : ℕ) (levels : List ℕ) (count : ℕ) (x : List ℕ)
-      → ownCall f c report sets (widthAltered roms row width) set address levels count x ≡ ownCall f c report sets roms set address levels count x
+  pub own-width-altered : (f c : ℕ) (report : OneromReport) (sets : List ℕ) (set address : ℕ) (levels : List ℕ) (job : ℕ) (counts x : List ℕ)
+      → ownCall f c report sets (widthAltered roms row width) set address levels job counts x ≡ ownCall f c report sets roms set address levels job counts x
   unfolding ownCall
-  own-width-altered f c report sets set address levels count x =
-      ap byteOf (width-altered-reads roms row width (boardIn f c report) sets f c count (own set address (levelsFrom levels)) x)
+  own-width-altered f c report sets set address levels job counts x =
+      job-same f c _ _ _ _ job counts x (λ count. width-altered-reads roms row width (boardIn f c report) sets f c count (own set address (levelsFrom levels)) x)
 
   pub mangle-width-altered : (number romPins : ℕ) (addressPins control : List ℕ) (served : ℕ) (sets : List ℕ) (address : ℕ) (levels : List ℕ)
       → mangleCall number romPins addressPins control served sets (widthAltered roms row width) address levels

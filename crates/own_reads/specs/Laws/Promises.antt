@@ -12,9 +12,9 @@ use Rattle.governing.specs.declared.GoverningSet.{GoverningSet}
 use Rattle.governing.specs.Governing.{governing, governingOwn}
 use Rattle.info.specs.declared.SdrrAddress.{SdrrAddress}
 use Rattle.info.specs.Lent.{Lent, unmangled, mangleOwn, demangleByte}
-use Rattle.info.specs.Reads.{byte, own, ownPhysical, Reply, romRead}
+use Rattle.info.specs.Reads.{byte, own, ownPhysical, Reply, refusedReply, romRead}
 use Rattle.info.specs.Laws.Steps.{mangled-governed}
-use Rattle.info.specs.Laws.Calls.{place, refusedReply, read-beyond}
+use Rattle.info.specs.Laws.Calls.{place, read-beyond}
 use Rattle.byte_reads.specs.declared.ByteRead.{ByteRead}
 use Rattle.byte_reads.specs.Calls.{byteOf}
 use Rattle.byte_reads.specs.Code.{shownFrom}

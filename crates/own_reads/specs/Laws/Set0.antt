@@ -13,9 +13,9 @@ use Rattle.governing.specs.Governing.{ungoverned, governing, governingSet0, gove
 use Rattle.governing.specs.Laws.{no-pins, no-sets, by-set-0, own-no-row, own-by-set}
 use Rattle.info.specs.declared.SdrrAddress.{SdrrAddress}
 use Rattle.info.specs.Lent.{Lent, unmangled, mangledBy}
-use Rattle.info.specs.Reads.{byte, own, physical, ownPhysical, Reply, romRead}
+use Rattle.info.specs.Reads.{byte, own, physical, ownPhysical, Reply, refusedReply, romRead}
 use Rattle.info.specs.Laws.Steps.{not-governed, in-two, own-in-two}
-use Rattle.info.specs.Laws.Calls.{refusedReply, read-beyond}
+use Rattle.info.specs.Laws.Calls.{read-beyond}
 use Rattle.own_reads.specs.Laws.Steps.{own-as-byte, byte-unmangled, own-unmangled}
 use Rattle.own_reads.specs.Laws.Numbers.{lacksRows, lacks-rows, leads-80, leads-4, leads-70, never-70, never-71}
 

@@ -15,9 +15,9 @@ use Rattle.mangle.specs.declared.Mangled.{Mangled}
 use Rattle.governing.specs.Laws.{Governs}
 use Rattle.info.specs.declared.SdrrAddress.{SdrrAddress}
 use Rattle.info.specs.Lent.{Lent}
-use Rattle.info.specs.Reads.{noBytes, byte, own, physical, ownPhysical, byteP, storedP, finished, readP, Reply, readReply, romRead}
+use Rattle.info.specs.Reads.{noBytes, byte, own, physical, ownPhysical, byteP, storedP, finished, readP, Reply, readReply, refusedReply, romRead}
 use Rattle.info.specs.Laws.Steps.{own-accepted}
-use Rattle.info.specs.Laws.Calls.{refusedReply, read-beyond}
+use Rattle.info.specs.Laws.Calls.{read-beyond}
 use Rattle.byte_reads.specs.declared.ByteRead.{ByteRead}
 use Rattle.byte_reads.specs.Calls.{byteOf}
 use Rattle.byte_reads.specs.Code.{noByte, byteAt, shownFrom}

@@ -3,7 +3,7 @@
 use onerom_fw_parser::readers::Tried;
 
 use crate::board;
-use crate::calls::{self, Call};
+use crate::calls::{self, Call, Job};
 use crate::ffi::{self, CReport, Lent, ROM_NAME_REASON, ROM_WORDS};
 use crate::fixed::{TEMPLATES, template};
 use crate::image::Board;
@@ -22,10 +22,13 @@ pub struct Slack {
     pub roms: i32,
 }
 
-/// A call with the numbers of words that are lent to it.
+/// A call, for whom it is, and the numbers of words that are lent to it.
 #[derive(Debug, Clone, Copy, PartialEq, Eq)]
 pub struct Lending {
     pub call: Call,
+    pub job: Job,
+    /// At a base from which the image would reach past 2^32.
+    pub beyond: bool,
     pub set_words: usize,
     pub rom_words: usize,
 }
@@ -172,12 +175,14 @@ pub fn compare_call(image: &[u8], flash_base: u32, both: &mut Both, lending: Len
     let roms = both.opened.rom_rows.clone();
     let (sets, roms) = (&sets[..lending.set_words.min(sets.len())], &roms[..lending.rom_words.min(roms.len())]);
     let report = both.report;
-    calls::compare(Lent { image, flash_base, report: &report, sets, roms }, &mut both.opened, lending.call, tally)
+    let flash_base = if lending.beyond { u32::MAX } else { flash_base };
+    calls::compare(Lent { image, flash_base, report: &report, sets, roms }, &mut both.opened, lending.call, lending.job, tally)
 }
 
-/// A call on the board; now and then with fewer rows than there are.
-pub fn random_call(rng: &mut Rng, both: &Both, image: &[u8]) -> Lending {
+/// A call on the board, for a job that is drawn from `jobs`; now and then with fewer rows than there are.
+pub fn random_call(rng: &mut Rng, jobs: &mut Rng, both: &Both, image: &[u8]) -> Lending {
     let call = calls::random(rng, &both.opened, image.len());
+    let job = calls::a_job(jobs, false);
     let (mut set_words, mut rom_words) = (both.opened.set_rows.len(), both.opened.rom_rows.len());
     if rng.once_in(16) {
         set_words = rng.below(set_words + 1);
@@ -185,7 +190,16 @@ pub fn random_call(rng: &mut Rng, both: &Both, image: &[u8]) -> Lending {
     if rng.once_in(16) {
         rom_words = rng.below(rom_words + 1);
     }
-    Lending { call, set_words, rom_words }
+    Lending { call, job, beyond: false, set_words, rom_words }
+}
+
+/// Now and then the same read once more, to be refused with 1 or 83 before all else.
+pub fn refused_first(jobs: &mut Rng, read: Lending) -> Option<Lending> {
+    if !read.call.is_read() || !jobs.once_in(8) {
+        return None;
+    }
+    let (none, beyond) = jobs.pick(&[(true, false), (true, false), (true, true), (false, true)]);
+    Some(Lending { job: calls::a_job(jobs, none), beyond, ..read })
 }
 
 // ---- inputs

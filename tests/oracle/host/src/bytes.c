@@ -10,17 +10,18 @@ uint32_t bytes_read(const uint8_t *image, size_t image_len, uint32_t flash_base,
                     uint8_t *to, uint32_t n)
 {
     const uint8_t levels[5] = {0, 0, 0, 0, 0};
-    uint32_t count = 0;
+    enum { JOB = 3 };
+    uint32_t counts[ONEROM_JOBS] = {0};
     for (uint32_t at = 0; at < n; at++) {
         if (read == OWN)
             onerom_read_rom_byte_own(image, image_len, flash_base, cs0_base, *report, set_rows, set_words, rom_rows, rom_words, 0, at, levels,
-                                     &count, &to[at]);
+                                     JOB, counts, &to[at]);
         else if (read == DEMANGLED)
             onerom_read_rom_byte_demangled(image, image_len, flash_base, cs0_base, *report, set_rows, set_words, rom_rows, rom_words, 0, logical,
-                                           at, levels, &count, &to[at]);
+                                           at, levels, JOB, counts, &to[at]);
         else
             onerom_read_rom_byte_raw(image, image_len, flash_base, cs0_base, *report, set_rows, set_words, rom_rows, rom_words, 0, logical, at,
-                                     levels, &count, &to[at]);
+                                     levels, JOB, counts, &to[at]);
     }
-    return count;
+    return counts[JOB];
 }

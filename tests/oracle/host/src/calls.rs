@@ -3,7 +3,7 @@
 use onerom_fw_parser::readers::{Window, block_on};
 use onerom_fw_parser::{Parser, SdrrAddress, SdrrInfo, SdrrLogicalAddress};
 
-use crate::ffi::{self, Address, Lent, ROM_WORDS, Rows, SET_WORDS};
+use crate::ffi::{self, Address, JOBS, Lent, ROM_WORDS, Rows, SET_WORDS};
 use crate::mangling::{self, MANGLE_TEXTS, cs_set, demangle_pin, lacks_rows, mangle_panic};
 use crate::opening::Opened;
 use crate::rng::Rng;
@@ -30,6 +30,11 @@ pub enum Call {
 }
 
 impl Call {
+    /// Not a size, nor same set.
+    pub fn is_read(self) -> bool {
+        !matches!(self, Call::Size { .. } | Call::Same { .. })
+    }
+
     /// The read by the set's own ROMs with the arguments of a logical read. It is not drawn by itself, so that what is drawn, and with it the
     /// sample, stays as it is.
     pub fn by_own_roms(self) -> Option<Call> {
@@ -40,7 +45,31 @@ impl Call {
     }
 }
 
-/// Number, value or bytes, and the served count afterwards.
+/// For whom a read is, a job beside others. The Rust has no jobs: the `count` of a call is this job's.
+#[derive(Debug, Clone, Copy, PartialEq, Eq, Default)]
+pub struct Job {
+    pub number: u32,
+    /// What the counts hold, but for the job's own.
+    pub others: [u32; JOBS],
+}
+
+impl Job {
+    /// The eight counts with the job's own, if there is such a job.
+    pub fn counts(&self, own: u32) -> [u32; JOBS] {
+        let mut counts = self.others;
+        if let Some(count) = counts.get_mut(self.number as usize) {
+            *count = own;
+        }
+        counts
+    }
+
+    /// The job's own of eight counts; 0 if there is no such job.
+    pub fn own(&self, counts: &[u32; JOBS]) -> u32 {
+        counts.get(self.number as usize).copied().unwrap_or(0)
+    }
+}
+
+/// Number, value or bytes, and the job's count afterwards.
 type Reply = (u32, Vec<u8>, u32);
 
 type Asked<T> = Result<T, Box<Difference>>;
@@ -249,9 +278,13 @@ fn same_by_rows(lent: Lent<'_>, served: u32, a: u32, b: u32) -> (u32, u32) {
 }
 
 /// One call on both sides. `opened` is the Rust's board.
-pub fn compare(lent: Lent<'_>, opened: &mut Opened, call: Call, tally: &mut Tally) -> Compared {
+pub fn compare(lent: Lent<'_>, opened: &mut Opened, call: Call, job: Job, tally: &mut Tally) -> Compared {
     let Some(info) = &mut opened.info else { return Ok(()) };
     let beyond = is_beyond(lent.flash_base, lent.image);
+    let no_job = job.number as usize >= JOBS;
+    // 1, then 83: the Rust has neither, and is not asked
+    let added = if beyond { Some(1) } else { no_job.then_some(83) };
+    let with_counts = |(number, bytes, own): Reply| (number, bytes, job.counts(own));
     let mut rust = Asker { lent, base: opened.base, info, tally };
     match call {
         Call::Size { set } => {
@@ -268,39 +301,50 @@ pub fn compare(lent: Lent<'_>, opened: &mut Opened, call: Call, tally: &mut Tall
             tally.number("same set", number);
         }
         Call::Data { set, offset, len, count } => {
-            let (mut buffer, mut after) = (vec![LENT_BYTE; len + GUARD], count);
-            let number = ffi::data(lent, set, offset, &mut buffer[..len], &mut after);
+            let (mut buffer, mut counts) = (vec![LENT_BYTE; len + GUARD], job.counts(count));
+            let number = ffi::data(lent, set, offset, &mut buffer[..len], job.number, &mut counts);
             same("the bytes behind the buffer", &buffer[len..], &[LENT_BYTE; GUARD])?;
             buffer.truncate(len);
-            let expected = if beyond { (1, vec![LENT_BYTE; len], count) } else { rust.data(set, offset, len, count)? };
-            same("ROM data", (number, buffer, after), expected)?;
+            let expected = match added {
+                Some(number) => (number, vec![LENT_BYTE; len], count),
+                None => rust.data(set, offset, len, count)?,
+            };
+            same("ROM data", (number, buffer, counts), with_counts(expected))?;
             tally.number("ROM data", number);
         }
         Call::Byte { set, address, demangled, count } => {
-            let (mut value, mut after) = (LENT_BYTE, count);
-            let number = ffi::byte(lent, set, address, demangled, &mut after, &mut value);
-            let expected = if beyond { (1, vec![LENT_BYTE], count) } else { rust.byte(set, address, demangled, count)? };
-            same("a byte read", (number, vec![value], after), expected)?;
+            let (mut value, mut counts) = (LENT_BYTE, job.counts(count));
+            let number = ffi::byte(lent, set, address, demangled, job.number, &mut counts, &mut value);
+            let expected = match added {
+                Some(number) => (number, vec![LENT_BYTE], count),
+                None => rust.byte(set, address, demangled, count)?,
+            };
+            same("a byte read", (number, vec![value], counts), with_counts(expected))?;
             tally.number(if demangled { "byte, demangled" } else { "byte, raw" }, number);
         }
         Call::Own { set, address, levels, count } => {
-            let (mut value, mut after) = (LENT_BYTE, count);
-            let number = ffi::byte_own(lent, set, address, levels, &mut after, &mut value);
-            let expected = if beyond { (1, vec![LENT_BYTE], count) } else { rust.own(set, address, levels, count)? };
+            let (mut value, mut counts) = (LENT_BYTE, job.counts(count));
+            let number = ffi::byte_own(lent, set, address, levels, job.number, &mut counts, &mut value);
+            let expected = match added {
+                Some(number) => (number, vec![LENT_BYTE], count),
+                None => rust.own(set, address, levels, count)?,
+            };
             tally.rule(Rule::OwnRoms);
-            same("a byte read by the set's own ROMs", (number, vec![value], after), expected)?;
+            same("a byte read by the set's own ROMs", (number, vec![value], counts), with_counts(expected))?;
             if set == 0 {
-                let (mut old_value, mut old_after) = (LENT_BYTE, count);
-                let old = ffi::byte(lent, 0, Address::Logical(address, levels), true, &mut old_after, &mut old_value);
+                let (mut old_value, mut old_counts) = (LENT_BYTE, job.counts(count));
+                let old = ffi::byte(lent, 0, Address::Logical(address, levels), true, job.number, &mut old_counts, &mut old_value);
                 let rows = Rows { served: lent.report.served(), sets: lent.sets, roms: lent.roms };
                 tally.rule(Rule::OwnRomsOfSet0);
-                same("set 0 by its own ROMs, and by the old read", (number, value, after), (own_number(old, rows), old_value, old_after))?;
+                same("set 0 by its own ROMs, and by the old read", (number, value, counts), (own_number(old, rows), old_value, old_counts))?;
             }
             tally.number("byte, own ROMs", number);
         }
     }
     if beyond {
         tally.rule(Rule::WindowCheck);
+    } else if no_job && call.is_read() {
+        tally.rule(Rule::NoJob);
     }
     Ok(())
 }
@@ -317,6 +361,18 @@ fn a_set(rng: &mut Rng, served: usize) -> u32 {
 
 fn a_count(rng: &mut Rng, len: usize) -> u32 {
     if rng.once_in(8) { u32::MAX - rng.pick(&[0, 1, len as u32, (len as u32).wrapping_sub(1)]) } else { rng.word() >> 1 }
+}
+
+/// A job beside seven others; `none`: a number that is no job's. Drawn apart from the calls, which so stay what they are.
+pub fn a_job(rng: &mut Rng, none: bool) -> Job {
+    let others = std::array::from_fn(|_| if rng.once_in(4) { rng.pick(&[0, 1, u32::MAX - 1, u32::MAX]) } else { rng.word() });
+    let number = match rng.below(3) {
+        _ if !none => rng.below(JOBS) as u32,
+        0 => rng.pick(&[8, 9, 255, 256, 263, 65536, u32::MAX - 7, u32::MAX]),
+        1 => 8 << rng.below(29),
+        _ => rng.word().max(8),
+    };
+    Job { number, others }
 }
 
 /// A call on a board with these sets; offsets around the ends of the sets and of the image.

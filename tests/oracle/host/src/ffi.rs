@@ -55,7 +55,8 @@ unsafe extern "C" {
         offset: u32,
         buffer: *mut u8,
         buffer_len: usize,
-        count: *mut u32,
+        job: u32,
+        counts: *mut u32,
     ) -> u32;
     fn onerom_read_rom_byte_raw(
         image: *const u8,
@@ -71,7 +72,8 @@ unsafe extern "C" {
         logical: u8,
         address: u32,
         levels: *const u8,
-        count: *mut u32,
+        job: u32,
+        counts: *mut u32,
         value: *mut u8,
     ) -> u32;
     fn onerom_read_rom_byte_demangled(
@@ -88,7 +90,8 @@ unsafe extern "C" {
         logical: u8,
         address: u32,
         levels: *const u8,
-        count: *mut u32,
+        job: u32,
+        counts: *mut u32,
         value: *mut u8,
     ) -> u32;
     fn onerom_read_rom_byte_own(
@@ -104,7 +107,8 @@ unsafe extern "C" {
         set: u32,
         address: u32,
         levels: *const u8,
-        count: *mut u32,
+        job: u32,
+        counts: *mut u32,
         value: *mut u8,
     ) -> u32;
 }
@@ -248,6 +252,8 @@ pub const RUNTIME_WORDS: usize = 25;
 pub const PART_WORDS: usize = 3;
 pub const SET_WORDS: usize = 8;
 pub const ROM_WORDS: usize = 8;
+/// A ROM read is for one of so many jobs, and is lent a count for each.
+pub const JOBS: usize = 8;
 /// Where a ROM row holds its name: offset, length, reason, width.
 pub const ROM_NAME: usize = 4;
 pub const ROM_NAME_REASON: usize = 6;
@@ -326,7 +332,7 @@ pub fn same_set(lent: Lent<'_>, a: u32, b: u32, value: &mut u32) -> u32 {
     unsafe { onerom_same_set(lent.report.served(), sets.as_ptr(), sets.len(), roms.as_ptr(), roms.len(), a, b, value) }
 }
 
-pub fn data(lent: Lent<'_>, set: u32, offset: u32, buffer: &mut [u8], count: &mut u32) -> u32 {
+pub fn data(lent: Lent<'_>, set: u32, offset: u32, buffer: &mut [u8], job: u32, counts: &mut [u32; JOBS]) -> u32 {
     unsafe {
         onerom_read_rom_set_data(
             lent.image.as_ptr(),
@@ -340,7 +346,8 @@ pub fn data(lent: Lent<'_>, set: u32, offset: u32, buffer: &mut [u8], count: &mu
             offset,
             buffer.as_mut_ptr(),
             buffer.len(),
-            count,
+            job,
+            counts.as_mut_ptr(),
         )
     }
 }
@@ -352,7 +359,7 @@ pub enum Address {
     Logical(u32, [u8; 5]),
 }
 
-pub fn byte(lent: Lent<'_>, set: u32, address: Address, demangled: bool, count: &mut u32, value: &mut u8) -> u32 {
+pub fn byte(lent: Lent<'_>, set: u32, address: Address, demangled: bool, job: u32, counts: &mut [u32; JOBS], value: &mut u8) -> u32 {
     let (logical, address, levels) = match address {
         Address::Raw(address) => (0, address, [0; 5]),
         Address::Logical(address, levels) => (1, address, levels),
@@ -373,14 +380,15 @@ pub fn byte(lent: Lent<'_>, set: u32, address: Address, demangled: bool, count: 
             logical,
             address,
             levels.as_ptr(),
-            count,
+            job,
+            counts.as_mut_ptr(),
             value,
         )
     }
 }
 
 /// A byte at a logical address, by the named set's own ROMs.
-pub fn byte_own(lent: Lent<'_>, set: u32, address: u32, levels: [u8; 5], count: &mut u32, value: &mut u8) -> u32 {
+pub fn byte_own(lent: Lent<'_>, set: u32, address: u32, levels: [u8; 5], job: u32, counts: &mut [u32; JOBS], value: &mut u8) -> u32 {
     unsafe {
         onerom_read_rom_byte_own(
             lent.image.as_ptr(),
@@ -395,7 +403,8 @@ pub fn byte_own(lent: Lent<'_>, set: u32, address: u32, levels: [u8; 5], count: 
             set,
             address,
             levels.as_ptr(),
-            count,
+            job,
+            counts.as_mut_ptr(),
             value,
         )
     }

@@ -3,8 +3,8 @@
 use std::fmt;
 
 use crate::boards::{self, Buffers, Lending, Slack};
-use crate::calls::Call;
-use crate::ffi::{Address, Pins, ROM_WORDS, SET_WORDS};
+use crate::calls::{Call, Job};
+use crate::ffi::{Address, JOBS, Pins, ROM_WORDS, SET_WORDS};
 use crate::mangling::{Case, Subject};
 use crate::tally::{Difference, Tally};
 use crate::{runtime, shrink, strings};
@@ -82,6 +82,13 @@ impl Input {
                 }
             }),
             Input::Call { lending, .. } => {
+                for job in [Job::default(), Job { others: [0; JOBS], ..lending.job }, Job { number: 8, ..lending.job }] {
+                    push(&|i| {
+                        if let Input::Call { lending, .. } = i {
+                            lending.job = job
+                        }
+                    });
+                }
                 for call in plainer_calls(lending.call) {
                     push(&|i| {
                         if let Input::Call { lending, .. } = i {

@@ -7,7 +7,7 @@
 //!   d pins-number byte data-pins       demangling: number, value
 //!   o flash-base CS0-base info-offset set-words rom-words image      the opening: number; the report; set rows; ROM rows
 //!   c kind set address levels length count      a call on the board of the last line `o`. size, same: number, value; data, raw, raw-raw,
-//!                                      logical, logical-raw: number, bytes in hexadecimal (`-` for none), served count
+//!                                      logical, logical-raw: number, bytes in hexadecimal (`-` for none), the count of the job that reads
 //! Levels have a digit each, CS1 the lowest: 0 low, 1 high, 2 not given. The report's words are document 01's in order, a word each; a text of
 //! it is its number, offset, length and width; metadata that is not looked for is 256.
 
@@ -167,6 +167,7 @@ fn bytes_read(number: u32, bytes: &[u8]) -> String {
 
 /// The kind's name, the numbers, and the answer as our call gives it.
 fn call_line(lending: Lending, lent: Lent<'_>) {
+    let job = lending.job;
     let (kind, numbers, answer) = match lending.call {
         Call::Size { set } => {
             let mut value = 0;
@@ -179,13 +180,15 @@ fn call_line(lending: Lending, lent: Lent<'_>) {
             ("same", [a, b, 0, 0, 0], format!("{number} {value}"))
         }
         Call::Data { set, offset, len, count } => {
-            let (mut buffer, mut after) = (vec![0; len], count);
-            let number = ffi::data(lent, set, offset, &mut buffer, &mut after);
+            let (mut buffer, mut counts) = (vec![0; len], job.counts(count));
+            let number = ffi::data(lent, set, offset, &mut buffer, job.number, &mut counts);
+            let after = job.own(&counts);
             ("data", [set, offset, 0, len as u32, count], format!("{number} {} {after}", bytes_read(number, &buffer)))
         }
         Call::Byte { set, address, demangled, count } => {
-            let (mut value, mut after) = (0, count);
-            let number = ffi::byte(lent, set, address, demangled, &mut after, &mut value);
+            let (mut value, mut counts) = (0, job.counts(count));
+            let number = ffi::byte(lent, set, address, demangled, job.number, &mut counts, &mut value);
+            let after = job.own(&counts);
             let (kind, at, levels) = match (address, demangled) {
                 (Address::Raw(at), false) => ("raw-raw", at, 0),
                 (Address::Raw(at), true) => ("raw", at, 0),
@@ -200,7 +203,7 @@ fn call_line(lending: Lending, lent: Lent<'_>) {
     println!("c {kind} {}|{answer}", numbers.map(|n| format!("{n:08x}")).join(" "));
 }
 
-fn one_board(rng: &mut Rng, board: &Board, wanted: &mut Wanted, buffers: &mut Buffers, tally: &mut Tally) -> Compared {
+fn one_board(rng: &mut Rng, jobs: &mut Rng, board: &Board, wanted: &mut Wanted, buffers: &mut Buffers, tally: &mut Tally) -> Compared {
     if board.image.len() > 1000 {
         return Ok(());
     }
@@ -229,7 +232,7 @@ fn one_board(rng: &mut Rng, board: &Board, wanted: &mut Wanted, buffers: &mut Bu
     let mut lendings = Vec::new();
     for _ in 0..8 {
         // the whole rows: the list says nothing of rows that are cut
-        let lending = Lending { set_words: usize::MAX, rom_words: usize::MAX, ..boards::random_call(rng, &both, &board.image) };
+        let lending = Lending { set_words: usize::MAX, rom_words: usize::MAX, ..boards::random_call(rng, jobs, &both, &board.image) };
         let before = tally.numbers_seen();
         boards::compare_call(&board.image, board.flash_base, &mut both, lending, tally)?;
         outcomes.extend(tally.numbers_since(&before));
@@ -250,7 +253,7 @@ fn one_board(rng: &mut Rng, board: &Board, wanted: &mut Wanted, buffers: &mut Bu
     Ok(())
 }
 
-fn whole_boards(rng: &mut Rng, tally: &mut Tally) -> Compared {
+fn whole_boards(rng: &mut Rng, jobs: &mut Rng, tally: &mut Tally) -> Compared {
     let mut wanted = Wanted::new(2);
     let mut buffers = Buffers::default();
     let mut board = Board::default();
@@ -260,7 +263,7 @@ fn whole_boards(rng: &mut Rng, tally: &mut Tally) -> Compared {
         } else {
             board::damage(rng, &mut board);
         }
-        one_board(rng, &board, &mut wanted, &mut buffers, tally)?;
+        one_board(rng, jobs, &board, &mut wanted, &mut buffers, tally)?;
     }
     Ok(())
 }
@@ -272,5 +275,6 @@ pub fn print(seed: u64) -> Compared {
     runtimes(&mut rng, &mut tally)?;
     texts(&mut rng, &mut tally)?;
     mangles(&mut rng, &mut tally, &mut subject)?;
-    whole_boards(&mut rng, &mut tally)
+    // which job a call is for shows in no line
+    whole_boards(&mut rng, &mut Rng::new(seed + 1), &mut tally)
 }

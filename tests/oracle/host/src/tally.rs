@@ -35,6 +35,7 @@ rules! {
     RowsShort: "44 or 45, added: the Rust lends no rows",
     LentRows: "4, added: the Rust lends no rows",
     CountTop: "82, added: the Rust counts nothing",
+    NoJob: "83, added: the Rust has no jobs",
     SetAboveByte: "80: the Rust's set number is a byte",
     LentCount: "a lent ROM count above 255: the Rust, whose count is a byte, is asked with 255",
     SameSet: "same set, added: held to the rows by the host",

@@ -4,7 +4,7 @@
 use std::hint::black_box;
 use std::time::Instant;
 
-use host::ffi::{self, COpening, Lent, ROM_NAME, ROM_WORDS, Rows, SET_WORDS};
+use host::ffi::{self, COpening, JOBS, Lent, ROM_NAME, ROM_WORDS, Rows, SET_WORDS};
 use host::fixed::{measured, without_names};
 use host::image::{Board, CS0_BASE, PINS_PTR};
 use host::rng::Rng;
@@ -388,7 +388,7 @@ fn data(bench: &Bench) {
     let mut window = Window { image: &o.board.image, base: o.board.flash_base };
     let mut parser = Parser::with_base_flash_address(&mut window, o.board.flash_base, 0);
     let info = &mut o.info;
-    let here = |buffer: &mut [u8]| assert!(ffi::data(lent, 0, 0, buffer, &mut 0) == 0);
+    let here = |buffer: &mut [u8]| assert!(ffi::data(lent, 0, 0, buffer, 0, &mut [0; JOBS]) == 0);
     let mut rust = |buffer: &mut [u8]| rust_reads_data(info, &mut parser, buffer);
     here(&mut ours);
     rust(&mut theirs);

@@ -98,7 +98,7 @@ impl Run {
     }
 
     fn boards(&mut self) -> Compared {
-        let mut rng = self.rng(5);
+        let (mut rng, mut jobs) = (self.rng(5), self.rng(6));
         let (buffers, tally, last) = (&mut self.buffers, &mut self.tally, &mut self.last);
         let mut each = |kind, board: &Board, rng: &mut Rng| {
             let (image, flash_base) = (&board.image, board.flash_base);
@@ -109,9 +109,10 @@ impl Run {
             let Some(mut both) = both else { return Ok(()) };
             let calls = if both.report.served() == 0 { 2 } else { 5 };
             for _ in 0..rng.below(calls) {
-                let drawn = boards::random_call(rng, &both, image);
+                let drawn = boards::random_call(rng, &mut jobs, &both, image);
                 let own = drawn.call.by_own_roms().map(|call| Lending { call, ..drawn });
-                for lending in std::iter::once(drawn).chain(own) {
+                let refused = [Some(drawn), own].map(|read| boards::refused_first(&mut jobs, read?));
+                for lending in [Some(drawn), own].into_iter().chain(refused).flatten() {
                     tally.kind("calls on opened boards");
                     boards::compare_call(image, flash_base, &mut both, lending, tally)
                         .inspect_err(|_| *last = Some(Input::Call { image: image.clone(), flash_base, lending }))?;

@@ -1,0 +1,128 @@
+// The ROM reads, with a count for each job (info.rs `read_rom_set_data`, `read_rom_byte_raw`, `read_rom_byte_demangled`, and the byte by the set's
+// own ROMs): 1, 83, then the read on the job's own count. They go by the report and rows as lent.
+#![tactic(auto)]
+
+ghost use Rattle.std.specs.Prelude.{◌≡◌, true, false, [], length};
+ghost use Rattle.info.specs.Reads.{range, byte, own, bufferLeft};
+ghost use Rattle.data_reads.specs.Calls.{countedOf};
+ghost use Rattle.byte_reads.specs.Calls.{byteOf};
+ghost use Rattle.job_counts.specs.Counts.{noJobNumber};
+ghost use Rattle.jobs.specs.Jobs.{countsLeft};
+ghost use Rattle.job_reads.specs.Reads.{boardRead};
+
+use board::Board;
+use byte_reads::ByteRead;
+use data_reads::Counted;
+use info::SdrrAddress;
+use job_counts::JOBS;
+use types::SdrrCsSet;
+
+// The set's bytes from an offset on, as many as the buffer holds; a refused call changes no byte of it and no count.
+pub fn read_rom_set_data(
+    image: &[u8],
+    board: Board,
+    set_rows: &[u32],
+    set: u32,
+    offset: u32,
+    buffer: &mut [u8],
+    job: u32,
+    counts: &mut [u32; JOBS],
+) -> Counted
+    ensures reply { result ≡ countedOf (boardRead board set_rows.now [] job counts.old (range set offset (length buffer.old)) image.now) }
+    ensures buffer { buffer.new ≡ bufferLeft (boardRead board set_rows.now [] job counts.old (range set offset (length buffer.old)) image.now) buffer.old }
+    ensures counts { counts.new ≡ countsLeft job counts.old (boardRead board set_rows.now [] job counts.old (range set offset (length buffer.old)) image.now) }
+{
+    if !job_counts::is_job(job) {
+        let refused = job_counts::no_job(image, board.flash_base, board.cs0_base);
+        return Counted {
+            number: refused,
+            count: 0,
+        };
+    }
+    let before = job_counts::count_of(job, counts);
+    let data = data_reads::data_on_count(image, board, set_rows, set, offset, buffer, before);
+    job_counts::leave(job, data.count, counts);
+    data
+}
+
+fn no_byte(image: &[u8], board: Board) -> ByteRead
+    ensures { result ≡ record { number = noJobNumber board.flash_base board.cs0_base image.now; byte = 0; count = 0 } }
+{
+    let number = job_counts::no_job(image, board.flash_base, board.cs0_base);
+    ByteRead {
+        number,
+        byte: 0,
+        count: 0,
+    }
+}
+
+pub fn read_rom_byte_raw(
+    image: &[u8],
+    board: Board,
+    set_rows: &[u32],
+    rom_rows: &[u32],
+    set: u32,
+    address: SdrrAddress,
+    job: u32,
+    counts: &mut [u32; JOBS],
+) -> ByteRead
+    ensures reply { result ≡ byteOf (boardRead board set_rows.now rom_rows.now job counts.old (byte set address false) image.now) }
+    ensures counts { counts.new ≡ countsLeft job counts.old (boardRead board set_rows.now rom_rows.now job counts.old (byte set address false) image.now) }
+{
+    if !job_counts::is_job(job) {
+        return no_byte(image, board);
+    }
+    let before = job_counts::count_of(job, counts);
+    let raw = byte_reads::byte_raw_on_count(image, board, set_rows, rom_rows, set, address, before);
+    job_counts::leave(job, raw.count, counts);
+    raw
+}
+
+pub fn read_rom_byte_demangled(
+    image: &[u8],
+    board: Board,
+    set_rows: &[u32],
+    rom_rows: &[u32],
+    set: u32,
+    address: SdrrAddress,
+    job: u32,
+    counts: &mut [u32; JOBS],
+) -> ByteRead
+    ensures reply { result ≡ byteOf (boardRead board set_rows.now rom_rows.now job counts.old (byte set address true) image.now) }
+    ensures counts { counts.new ≡ countsLeft job counts.old (boardRead board set_rows.now rom_rows.now job counts.old (byte set address true) image.now) }
+{
+    if !job_counts::is_job(job) {
+        return no_byte(image, board);
+    }
+    let before = job_counts::count_of(job, counts);
+    let shown = byte_reads::byte_demangled_on_count(
+        image, board, set_rows, rom_rows, set, address, before,
+    );
+    job_counts::leave(job, shown.count, counts);
+    shown
+}
+
+pub fn read_rom_byte_own(
+    image: &[u8],
+    board: Board,
+    set_rows: &[u32],
+    rom_rows: &[u32],
+    set: u32,
+    address: u32,
+    cs_set: SdrrCsSet,
+    job: u32,
+    counts: &mut [u32; JOBS],
+) -> ByteRead
+    ensures reply { result ≡ byteOf (boardRead board set_rows.now rom_rows.now job counts.old (own set address cs_set) image.now) }
+    ensures counts { counts.new ≡ countsLeft job counts.old (boardRead board set_rows.now rom_rows.now job counts.old (own set address cs_set) image.now) }
+{
+    if !job_counts::is_job(job) {
+        return no_byte(image, board);
+    }
+    let before = job_counts::count_of(job, counts);
+    let own = own_reads::byte_own_on_count(
+        image, board, set_rows, rom_rows, set, address, cs_set, before,
+    );
+    job_counts::leave(job, own.count, counts);
+    own
+}

@@ -1,0 +1,4 @@
+pub mod Jobs
+pub mod Histories
+pub mod Isolated
+pub mod Laws

@@ -1,0 +1,3 @@
+pub mod ReadAfter
+pub mod Histories
+pub mod Laws

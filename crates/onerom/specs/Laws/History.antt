@@ -42,11 +42,11 @@ readIs (byteRead d f c report sets roms set logical address levels job value x) 
 readIs (ownRead f c report sets roms set address levels job value x) =
     record { flashBase = f; cs0Base = c; lent = lentBy (boardIn f c report) sets roms; job = job; read = own set address (levelsFrom levels); buffer = value ∷ []; image = x }
 
-answered : (c : Call) (counts : List ℕ) → answerTo c counts ≡ readReplyOf (readIs c) counts
+pub call-is-read : (c : Call) (counts : List ℕ) → answerTo c counts ≡ readReplyOf (readIs c) counts
 unfolding dataCall byteCall ownCall
-answered (dataRead f c report sets set offset buffer job x) counts = refl
-answered (byteRead d f c report sets roms set logical address levels job value x) counts = refl
-answered (ownRead f c report sets roms set address levels job value x) counts = refl
+call-is-read (dataRead f c report sets set offset buffer job x) counts = refl
+call-is-read (byteRead d f c report sets roms set logical address levels job value x) counts = refl
+call-is-read (ownRead f c report sets roms set address levels job value x) counts = refl
 
 -- What the machine of histories gives to a call is what its statement says: the number, the buffer or the lent byte, all eight counts; and the count in
 -- its reply is the job's own of these.
@@ -58,7 +58,7 @@ pub record AsStated (c : Call) (counts : List ℕ) : Type 0 where
 
 pub as-stated : (c : Call) (counts : List ℕ) → AsStated c counts
 as-stated c counts =
-    let e = answered c counts in
+    let e = call-is-read c counts in
     let d = readIs c in
     record {
       number = ap (λ (t : Reply). t.number) (sym e);

@@ -38,25 +38,13 @@ use Rattle.c_open.specs.Opening.{openCall, openingOut}
 use Rattle.c_job_reads.specs.Reads.{dataCall, byteCall, ownCall}
 use Rattle.own_reads.specs.Laws.Set0.{partedNumber, set-0-new, set-0-old, set-0-parted}
 
--- ---- the reads as they are called: each is the read of a job, by the report and rows as lent
+-- ---- the reads as they are called: each is the read of a job, by the report and rows as lent (`call-is-read` in Laws/History)
 
 -- ROM data is given no ROM rows; with any its answer is the same
 pub data-is-read : (f c : ℕ) (report : OneromReport) (sets roms : List ℕ) (set offset n job : ℕ) (counts x : List ℕ)
     → dataCall f c report sets set offset n job counts x ≡ jobRead f c (lentBy (boardIn f c report) sets roms) job counts (range set offset n) x
 unfolding dataCall jobRead romRead readP storedP finished
 data-is-read f c report sets roms set offset n job counts x = refl
-
-pub byte-is-read : (demangled : Bool) (f c : ℕ) (report : OneromReport) (sets roms : List ℕ) (set logical address : ℕ) (levels : List ℕ) (job : ℕ) (counts x : List ℕ)
-    → byteCall demangled f c report sets roms set logical address levels job counts x
-    ≡ jobRead f c (lentBy (boardIn f c report) sets roms) job counts (byte set (addressFrom logical address levels) demangled) x
-unfolding byteCall
-byte-is-read demangled f c report sets roms set logical address levels job counts x = refl
-
-pub own-is-read : (f c : ℕ) (report : OneromReport) (sets roms : List ℕ) (set address : ℕ) (levels : List ℕ) (job : ℕ) (counts x : List ℕ)
-    → ownCall f c report sets roms set address levels job counts x
-    ≡ jobRead f c (lentBy (boardIn f c report) sets roms) job counts (own set address (levelsFrom levels)) x
-unfolding ownCall
-own-is-read f c report sets roms set address levels job counts x = refl
 
 -- ---- wish 1: on set 0 `onerom_read_rom_byte_own` and the old read, `onerom_read_rom_byte_demangled` by a logical address
 

@@ -8,13 +8,13 @@ pub use borrow.Table.Steps.{cases}
 pub clash : {A : Type 0} → ◌≡◌ {A = ℕ} 0 1 → A
 clash z = absurd (omega arith)
 
-pub both-true : (a b : Bool) → (a && b) ≡ true → (a ≡ true) × (b ≡ true)
-both-true true b e = (refl, e)
-both-true false b e = clash (cc)
+pub both_true : (a b : Bool) → (a && b) ≡ true → (a ≡ true) × (b ≡ true)
+both_true true b e = (refl, e)
+both_true false b e = clash (cc)
 
-pub both-false : (a b : Bool) → (a || b) ≡ false → (a ≡ false) × (b ≡ false)
-both-false true b e = clash (cc)
-both-false false b e = (refl, e)
+pub both_false : (a b : Bool) → (a || b) ≡ false → (a ≡ false) × (b ≡ false)
+both_false true b e = clash (cc)
+both_false false b e = (refl, e)
 
 -- a part `&s[o..]`, as the code has it
 pub onward : (o : ℕ) (x : List ℕ) → take (length x - o) (drop o x) ≡ drop o x

@@ -4,7 +4,7 @@
 ghost use Rattle.std.specs.Prelude.{◌≡◌, map, ◌-◌};
 ghost use Rattle.base.specs.Choice.{pick};
 ghost use Rattle.least_pin.specs.LeastPin.{has24};
-ghost use Rattle.base_zero.specs.BaseZero.{lowered, loweredBy, baseZero};
+ghost use Rattle.base_zero.specs.BaseZero.{lowered, lowered_by, base_zero};
 
 use board::BoardPins;
 use least_pin::least_pin;
@@ -43,9 +43,9 @@ pub fn control_least(m: u8, pins: BoardPins) -> u8
 }
 
 // The address pins go down by m, the control pins by k.
-#[tactic(auto, unfolding(crate::specs::BaseZero::loweredBy))]
+#[tactic(auto, unfolding(crate::specs::BaseZero::lowered_by))]
 fn lowered_by(m: u8, k: u8, pins: BoardPins) -> BoardPins
-    ensures { result ≡ loweredBy m k pins }
+    ensures { result ≡ lowered_by m k pins }
 {
     let a = pins.addr;
     let addr = lower_all(m, a);
@@ -61,9 +61,9 @@ fn lowered_by(m: u8, k: u8, pins: BoardPins) -> BoardPins
     p
 }
 
-#[tactic(auto, unfolding(crate::specs::BaseZero::baseZero))]
+#[tactic(auto, unfolding(crate::specs::BaseZero::base_zero))]
 pub fn base_zero(pins: BoardPins) -> BoardPins
-    ensures { result ≡ baseZero pins }
+    ensures { result ≡ base_zero pins }
 {
     let m = least_pin(pins);
     lowered_by(m, control_least(m, pins), pins)

@@ -2,7 +2,7 @@
 #![tactic(auto)]
 
 ghost use Rattle.std.specs.Prelude.{◌≡◌, ◌*◌, length};
-ghost use Rattle.rows.specs.LentRows.{setRowLength, romRowLength};
+ghost use Rattle.rows.specs.LentRows.{set_row_length, rom_row_length};
 
 use board::Board;
 use rows::{RomWord, SetWord};
@@ -11,13 +11,13 @@ use text::Text;
 
 // Rows for 255 sets, and for 4,096 ROMs. The contracts give the lengths alone.
 pub fn set_space() -> [u32; 255 * rows::SET_WORDS]
-    ensures { 255 * setRowLength ≡ length result }
+    ensures { 255 * set_row_length ≡ length result }
 {
     [0; 255 * rows::SET_WORDS]
 }
 
 pub fn rom_space() -> [u32; 4096 * rows::ROM_WORDS]
-    ensures { 4096 * romRowLength ≡ length result }
+    ensures { 4096 * rom_row_length ≡ length result }
 {
     [0; 4096 * rows::ROM_WORDS]
 }

@@ -2,8 +2,8 @@
 use Rattle.pins.specs.declared.PinsItem.{PinsItem}
 use Rattle.board.specs.declared.BoardPins.{BoardPins}
 
-unfoldable pub boardPins : PinsItem → BoardPins
-boardPins i =
+unfoldable pub board_pins : PinsItem → BoardPins
+board_pins i =
     record {
       number = i.number;
       rom_pins = i.pins.rom_pins;

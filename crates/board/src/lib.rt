@@ -3,7 +3,7 @@
 #![tactic(auto)]
 
 ghost use Rattle.std.specs.Prelude.{◌≡◌};
-ghost use Rattle.board.specs.Board.{boardPins};
+ghost use Rattle.board.specs.Board.{board_pins};
 
 use pins::PinsItem;
 use types::McuLine;
@@ -33,9 +33,9 @@ pub struct Board {
     pub served: u32,
 }
 
-#[tactic(auto, unfolding(crate::specs::Board::boardPins))]
+#[tactic(auto, unfolding(crate::specs::Board::board_pins))]
 pub fn board_pins(item: PinsItem) -> BoardPins
-    ensures { result ≡ boardPins item }
+    ensures { result ≡ board_pins item }
 {
     let pins = item.pins;
     let data = pins.data;

@@ -4,5 +4,5 @@ use Rattle.info.specs.Reads.{Reply}
 use Rattle.byte_reads.specs.declared.ByteRead.{ByteRead}
 
 -- the byte, 0 beside a refusal
-abbrev pub byteOf : Reply → ByteRead
-byteOf r = record { number = r.number; byte = get_or r.bytes 0 0; count = r.count }
+abbrev pub byte_of : Reply → ByteRead
+byte_of r = record { number = r.number; byte = get_or r.bytes 0 0; count = r.count }

@@ -2,39 +2,39 @@
 use Rattle.std.specs.Prelude.{ℕ, ◌+◌, not, List, ltb, eqb, get_or}
 use Rattle.base.specs.Choice.{pick}
 use Rattle.types.specs.declared.McuLine.{McuLine}
-use Rattle.window.specs.Window.{baseAfter, beyondWindow}
+use Rattle.window.specs.Window.{base_after, beyond_window}
 use Rattle.board.specs.declared.BoardPins.{BoardPins}
 use Rattle.mangle.specs.declared.Mangled.{Mangled}
 use Rattle.info.specs.declared.SdrrAddress.{SdrrAddress}
-use Rattle.info.specs.Lent.{mangleAddress, demangledBy}
+use Rattle.info.specs.Lent.{mangle_address, demangled_by}
 use Rattle.set_data.specs.declared.SetData.{SetData}
-use Rattle.set_data.specs.Code.{setData, foundOf}
+use Rattle.set_data.specs.Code.{set_data, found_of}
 use Rattle.byte_reads.specs.declared.ByteRead.{ByteRead}
 
-abbrev pub noByte : ℕ → ℕ → ByteRead
-noByte n count = record { number = n; byte = 0; count = count }
+abbrev pub no_byte : ℕ → ℕ → ByteRead
+no_byte n count = record { number = n; byte = 0; count = count }
 
 -- mangling's number, then those of ROM data, then 82
-unfoldable pub storedByte : List ℕ → ℕ → SetData → Mangled → ℕ → ByteRead
-storedByte x base d m count =
-    pick (not (eqb m.number 0)) (noByte m.number count)
-    (pick (not (eqb (foundOf x base d m.value 1).number 0)) (noByte (foundOf x base d m.value 1).number count)
-    (pick (ltb 4294967295 (count + 1)) (noByte 82 count)
-    (record { number = 0; byte = get_or x (foundOf x base d m.value 1).at 0; count = count + 1 })))
+unfoldable pub stored_byte : List ℕ → ℕ → SetData → Mangled → ℕ → ByteRead
+stored_byte x base d m count =
+    pick (not (eqb m.number 0)) (no_byte m.number count)
+    (pick (not (eqb (found_of x base d m.value 1).number 0)) (no_byte (found_of x base d m.value 1).number count)
+    (pick (ltb 4294967295 (count + 1)) (no_byte 82 count)
+    (record { number = 0; byte = get_or x (found_of x base d m.value 1).at 0; count = count + 1 })))
 
 -- 1 before anything else
-unfoldable pub byteAt : (flashBase cs0Base : ℕ) → McuLine → (served : ℕ) → List ℕ → ℕ → Mangled → ℕ → List ℕ → ByteRead
-byteAt flashBase cs0Base line served sets set m count x =
-    pick (beyondWindow flashBase cs0Base x) (noByte 1 count) (storedByte x (baseAfter flashBase cs0Base line) (setData served sets set) m count)
+unfoldable pub byte_at : (flash_base cs0_base : ℕ) → McuLine → (served : ℕ) → List ℕ → ℕ → Mangled → ℕ → List ℕ → ByteRead
+byte_at flash_base cs0_base line served sets set m count x =
+    pick (beyond_window flash_base cs0_base x) (no_byte 1 count) (stored_byte x (base_after flash_base cs0_base line) (set_data served sets set) m count)
 
 -- a raw address skips mangling
-abbrev pub physicalBy : BoardPins → (served : ℕ) → (sets roms : List ℕ) → SdrrAddress → Mangled
-physicalBy pins served sets roms (SdrrAddress.Raw offset) = record { number = 0; value = offset }
-physicalBy pins served sets roms (SdrrAddress.Logical address levels) = mangleAddress pins served sets roms address levels
+abbrev pub physical_by : BoardPins → (served : ℕ) → (sets roms : List ℕ) → SdrrAddress → Mangled
+physical_by pins served sets roms (SdrrAddress.Raw offset) = record { number = 0; value = offset }
+physical_by pins served sets roms (SdrrAddress.Logical address levels) = mangle_address pins served sets roms address levels
 
 -- 70 and 79, which count nothing
-unfoldable pub shownFrom : (number : ℕ) → (dataPins : List ℕ) → ByteRead → ℕ → ByteRead
-shownFrom number dataPins raw count =
+unfoldable pub shown_from : (number : ℕ) → (data_pins : List ℕ) → ByteRead → ℕ → ByteRead
+shown_from number data_pins raw count =
     pick (not (eqb raw.number 0)) raw
-    (pick (not (eqb (demangledBy number dataPins raw.byte).number 0)) (noByte (demangledBy number dataPins raw.byte).number count)
-    (record { number = 0; byte = (demangledBy number dataPins raw.byte).value; count = raw.count }))
+    (pick (not (eqb (demangled_by number data_pins raw.byte).number 0)) (no_byte (demangled_by number data_pins raw.byte).number count)
+    (record { number = 0; byte = (demangled_by number data_pins raw.byte).value; count = raw.count }))

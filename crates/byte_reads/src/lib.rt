@@ -3,10 +3,10 @@
 #![tactic(auto)]
 
 ghost use Rattle.std.specs.Prelude.{◌≡◌, true, false};
-ghost use Rattle.info.specs.Lent.{lentBy};
-ghost use Rattle.info.specs.Reads.{byte, romRead};
-ghost use Rattle.byte_reads.specs.Calls.{byteOf};
-ghost use Rattle.byte_reads.specs.Code.{noByte, storedByte, byteAt, physicalBy, shownFrom};
+ghost use Rattle.info.specs.Lent.{lent_by};
+ghost use Rattle.info.specs.Reads.{byte, rom_read};
+ghost use Rattle.byte_reads.specs.Calls.{byte_of};
+ghost use Rattle.byte_reads.specs.Code.{no_byte, stored_byte, byte_at, physical_by, shown_from};
 
 use board::{Board, BoardPins};
 use info::SdrrAddress;
@@ -23,7 +23,7 @@ pub struct ByteRead {
 }
 
 fn no_byte(number: u8, count: u32) -> ByteRead
-    ensures { result ≡ noByte number count }
+    ensures { result ≡ no_byte number count }
 {
     ByteRead {
         number,
@@ -33,9 +33,9 @@ fn no_byte(number: u8, count: u32) -> ByteRead
 }
 
 // The byte at a mangled address of a set.
-#[tactic(auto, unfolding(crate::specs::Code::storedByte))]
+#[tactic(auto, unfolding(crate::specs::Code::stored_byte))]
 fn stored_byte(image: &[u8], base: u32, data: SetData, m: Mangled, count: u32) -> ByteRead
-    ensures { result ≡ storedByte image.now base «data» m count }
+    ensures { result ≡ stored_byte image.now base «data» m count }
 {
     if m.number != 0 {
         return no_byte(m.number, count);
@@ -65,7 +65,7 @@ fn physical_address(
     rom_rows: &[u32],
     address: SdrrAddress,
 ) -> Mangled
-    ensures { result ≡ physicalBy pins served set_rows.now rom_rows.now address }
+    ensures { result ≡ physical_by pins served set_rows.now rom_rows.now address }
 {
     match address {
         SdrrAddress::Raw(offset) => Mangled {
@@ -79,7 +79,7 @@ fn physical_address(
 }
 
 // The byte at a mangled address of a set, by no more of a board than it takes: 1 before anything else.
-#[tactic(auto, unfolding(crate::specs::Code::byteAt))]
+#[tactic(auto, unfolding(crate::specs::Code::byte_at))]
 pub fn byte_at(
     image: &[u8],
     flash_base: u32,
@@ -91,7 +91,7 @@ pub fn byte_at(
     m: Mangled,
     count: u32,
 ) -> ByteRead
-    ensures { result ≡ byteAt flash_base cs0_base line served set_rows.now set m count image.now }
+    ensures { result ≡ byte_at flash_base cs0_base line served set_rows.now set m count image.now }
 {
     if window::beyond_window(image, flash_base, cs0_base) {
         return no_byte(1, count);
@@ -110,7 +110,7 @@ pub fn byte_raw_on_count(
     address: SdrrAddress,
     count: u32,
 ) -> ByteRead
-    ensures { result ≡ byteOf (romRead board.flash_base board.cs0_base (lentBy board set_rows.now rom_rows.now) count (byte set address false) image.now) }
+    ensures { result ≡ byte_of (rom_read board.flash_base board.cs0_base (lent_by board set_rows.now rom_rows.now) count (byte set address false) image.now) }
 {
     let pins = board.pins;
     let served = board.served;
@@ -130,9 +130,9 @@ pub fn byte_raw_on_count(
 }
 
 // A raw byte that was read, demangled: 70 and 79 count nothing.
-#[tactic(auto, unfolding(crate::specs::Code::shownFrom))]
+#[tactic(auto, unfolding(crate::specs::Code::shown_from))]
 pub fn shown_byte(pins_number: u8, data: [u8; 8], raw: ByteRead, count: u32) -> ByteRead
-    ensures { result ≡ shownFrom pins_number «data» raw count }
+    ensures { result ≡ shown_from pins_number «data» raw count }
 {
     if raw.number != 0 {
         return raw;
@@ -157,7 +157,7 @@ pub fn byte_demangled_on_count(
     address: SdrrAddress,
     count: u32,
 ) -> ByteRead
-    ensures { result ≡ byteOf (romRead board.flash_base board.cs0_base (lentBy board set_rows.now rom_rows.now) count (byte set address true) image.now) }
+    ensures { result ≡ byte_of (rom_read board.flash_base board.cs0_base (lent_by board set_rows.now rom_rows.now) count (byte set address true) image.now) }
 {
     let raw = byte_raw_on_count(image, board, set_rows, rom_rows, set, address, count);
     let pins = board.pins;

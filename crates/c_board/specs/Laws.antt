@@ -2,11 +2,11 @@
 -- Assumes nothing.
 use Rattle.std.specs.Prelude.{ℕ, ◌≡◌}
 use Rattle.std.proofs.Common.{sym, ◌∙◌, ne_eqb}
-use Rattle.c_board.specs.Value.{valueAfter}
+use Rattle.c_board.specs.Value.{value_after}
 
-pub value-refused : {n m : ℕ} (w before : ℕ) → n ≡ m → (n ≡ 0 → ⊥) → (n ≡ m) × (before ≡ valueAfter n w before)
-value-refused {n} w before e h = (e, rw (ne_eqb n 0 h))
+pub value_refused : {n m : ℕ} (w before : ℕ) → n ≡ m → (n ≡ 0 → ⊥) → (n ≡ m) × (before ≡ value_after n w before)
+value_refused {n} w before e h = (e, rw (ne_eqb n 0 h))
 
--- at number 0 `valueAfter` is the value
-pub value-given : {n m v w : ℕ} → n ≡ m → v ≡ w → n ≡ 0 → (0 ≡ m) × (v ≡ w)
-value-given e g h = (sym h ∙ e, g)
+-- at number 0 `value_after` is the value
+pub value_given : {n m v w : ℕ} → n ≡ m → v ≡ w → n ≡ 0 → (0 ≡ m) × (v ≡ w)
+value_given e g h = (sym h ∙ e, g)

@@ -3,5 +3,5 @@ use Rattle.std.specs.Prelude.{ℕ, eqb}
 use Rattle.base.specs.Choice.{pick}
 
 -- the lent word afterwards: the value; a refusal changes nothing
-abbrev pub valueAfter : (number value before : ℕ) → ℕ
-valueAfter number value before = pick (eqb number 0) value before
+abbrev pub value_after : (number value before : ℕ) → ℕ
+value_after number value before = pick (eqb number 0) value before

@@ -2,13 +2,13 @@
 #![tactic(auto)]
 
 ghost use Rattle.std.specs.Prelude.{◌≡◌};
-ghost use Rattle.c_board.specs.Board.{levelOf, levelsFrom, pinsFrom};
+ghost use Rattle.c_board.specs.Board.{level_of, levels_from, pins_from};
 
 use board::BoardPins;
 use types::{Level, SdrrCsSet};
 
 fn level_of(n: u8) -> Level
-    ensures { result ≡ levelOf n }
+    ensures { result ≡ level_of n }
 {
     if n == 1 {
         return Level::High;
@@ -17,7 +17,7 @@ fn level_of(n: u8) -> Level
 }
 
 pub fn levels_from(levels: [u8; 5]) -> SdrrCsSet
-    ensures { result ≡ levelsFrom levels }
+    ensures { result ≡ levels_from levels }
 {
     SdrrCsSet {
         cs1: level_of(levels[0]),
@@ -28,7 +28,7 @@ pub fn levels_from(levels: [u8; 5]) -> SdrrCsSet
     }
 }
 
-#[tactic(auto, unfolding(crate::specs::Board::pinsFrom))]
+#[tactic(auto, unfolding(crate::specs::Board::pins_from))]
 pub fn pins_from(
     number: u8,
     rom_pins: u8,
@@ -36,7 +36,7 @@ pub fn pins_from(
     addr: [u8; 16],
     control: [u8; 7],
 ) -> BoardPins
-    ensures { result ≡ pinsFrom number rom_pins «data» addr control }
+    ensures { result ≡ pins_from number rom_pins «data» addr control }
 {
     BoardPins {
         number,

@@ -2,7 +2,7 @@
 #![tactic(auto)]
 
 ghost use Rattle.std.specs.Prelude.{◌≡◌};
-ghost use Rattle.c_board.specs.Value.{valueAfter};
+ghost use Rattle.c_board.specs.Value.{value_after};
 
 use byte_reads::ByteRead;
 
@@ -10,7 +10,7 @@ use byte_reads::ByteRead;
 pub fn give(read: ByteRead, count: &mut u32, value: &mut u8) -> u32
     ensures reply { result ≡ read.number }
     ensures count { count.new ≡ read.count }
-    ensures value { value.new ≡ valueAfter read.number read.byte value.old }
+    ensures value { value.new ≡ value_after read.number read.byte value.old }
 {
     *count = read.count;
     if read.number != 0 {

@@ -8,12 +8,12 @@ use Rattle.c_report.specs.declared.OneromPins.{OneromPins}
 use Rattle.c_report.specs.declared.OneromReport.{OneromReport}
 
 -- 5 is Rp2350, and no other
-abbrev pub lineIn : ℕ → McuLine
-lineIn n = pick (eqb n 5) McuLine.Rp2350 McuLine.F401DE
+abbrev pub line_in : ℕ → McuLine
+line_in n = pick (eqb n 5) McuLine.Rp2350 McuLine.F401DE
 
 -- of the pins what reads look at
-unfoldable pub pinsIn : OneromPins → BoardPins
-pinsIn p =
+unfoldable pub pins_in : OneromPins → BoardPins
+pins_in p =
     record {
       number = p.number;
       rom_pins = p.rom_pins;
@@ -28,6 +28,6 @@ pinsIn p =
       oe = p.oe;
     }
 
-unfoldable pub boardIn : (flashBase cs0Base : ℕ) → OneromReport → Board
-boardIn flashBase cs0Base r =
-    record { flash_base = flashBase; cs0_base = cs0Base; line = lineIn r.header.line; pins = pinsIn r.pins; served = r.rom_sets.served }
+unfoldable pub board_in : (flash_base cs0_base : ℕ) → OneromReport → Board
+board_in flash_base cs0_base r =
+    record { flash_base = flash_base; cs0_base = cs0_base; line = line_in r.header.line; pins = pins_in r.pins; served = r.rom_sets.served }

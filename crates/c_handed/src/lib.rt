@@ -2,7 +2,7 @@
 #![tactic(auto)]
 
 ghost use Rattle.std.specs.Prelude.{◌≡◌};
-ghost use Rattle.c_handed.specs.Handed.{lineIn, pinsIn, boardIn};
+ghost use Rattle.c_handed.specs.Handed.{line_in, pins_in, board_in};
 
 use board::{Board, BoardPins};
 use c_report::{OneromPins, OneromReport};
@@ -10,7 +10,7 @@ use types::McuLine;
 
 // 5 is Rp2350, and no other; which of the others it is, no read looks at.
 pub fn line_in(number: u8) -> McuLine
-    ensures { result ≡ lineIn number }
+    ensures { result ≡ line_in number }
 {
     if number == 5 {
         return McuLine::Rp2350;
@@ -19,9 +19,9 @@ pub fn line_in(number: u8) -> McuLine
 }
 
 // Of the pins what reads look at.
-#[tactic(auto, unfolding(crate::specs::Handed::pinsIn))]
+#[tactic(auto, unfolding(crate::specs::Handed::pins_in))]
 pub fn pins_in(held: OneromPins) -> BoardPins
-    ensures { result ≡ pinsIn held }
+    ensures { result ≡ pins_in held }
 {
     let data = held.data;
     let addr = held.addr;
@@ -41,9 +41,9 @@ pub fn pins_in(held: OneromPins) -> BoardPins
 }
 
 // Where the image stands, and what reads look at of a report that is handed back, altered or not.
-#[tactic(auto, unfolding(crate::specs::Handed::boardIn))]
+#[tactic(auto, unfolding(crate::specs::Handed::board_in))]
 pub fn board_in(flash_base: u32, cs0_base: u32, report: OneromReport) -> Board
-    ensures { result ≡ boardIn flash_base cs0_base report }
+    ensures { result ≡ board_in flash_base cs0_base report }
 {
     let header = report.header;
     let rom_sets = report.rom_sets;

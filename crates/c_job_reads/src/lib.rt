@@ -2,11 +2,11 @@
 #![tactic(auto)]
 
 ghost use Rattle.std.specs.Prelude.{◌≡◌, true, false, length};
-ghost use Rattle.info.specs.Reads.{bufferLeft};
-ghost use Rattle.byte_reads.specs.Calls.{byteOf};
-ghost use Rattle.jobs.specs.Jobs.{countsLeft};
-ghost use Rattle.c_board.specs.Value.{valueAfter};
-ghost use Rattle.c_job_reads.specs.Reads.{dataCall, byteCall, ownCall};
+ghost use Rattle.info.specs.Reads.{buffer_left};
+ghost use Rattle.byte_reads.specs.Calls.{byte_of};
+ghost use Rattle.jobs.specs.Jobs.{counts_left};
+ghost use Rattle.c_board.specs.Value.{value_after};
+ghost use Rattle.c_job_reads.specs.Reads.{data_call, byte_call, own_call};
 
 use c_report::OneromReport;
 use job_counts::JOBS;
@@ -23,9 +23,9 @@ pub fn data_call(
     job: u32,
     counts: &mut [u32; JOBS],
 ) -> u32
-    ensures reply { result ≡ (dataCall flash_base cs0_base report set_rows.now set offset (length buffer.old) job counts.old image.now).number }
-    ensures buffer { buffer.new ≡ bufferLeft (dataCall flash_base cs0_base report set_rows.now set offset (length buffer.old) job counts.old image.now) buffer.old }
-    ensures counts { counts.new ≡ countsLeft job counts.old (dataCall flash_base cs0_base report set_rows.now set offset (length buffer.old) job counts.old image.now) }
+    ensures reply { result ≡ (data_call flash_base cs0_base report set_rows.now set offset (length buffer.old) job counts.old image.now).number }
+    ensures buffer { buffer.new ≡ buffer_left (data_call flash_base cs0_base report set_rows.now set offset (length buffer.old) job counts.old image.now) buffer.old }
+    ensures counts { counts.new ≡ counts_left job counts.old (data_call flash_base cs0_base report set_rows.now set offset (length buffer.old) job counts.old image.now) }
 {
     if !job_counts::is_job(job) {
         return job_counts::no_job(image, flash_base, cs0_base) as u32;
@@ -61,9 +61,9 @@ pub fn raw_byte_call(
     counts: &mut [u32; JOBS],
     value: &mut u8,
 ) -> u32
-    ensures reply { result ≡ (byteCall false flash_base cs0_base report set_rows.now rom_rows.now set logical address levels.now job counts.old image.now).number }
-    ensures counts { counts.new ≡ countsLeft job counts.old (byteCall false flash_base cs0_base report set_rows.now rom_rows.now set logical address levels.now job counts.old image.now) }
-    ensures value { value.new ≡ valueAfter result (byteOf (byteCall false flash_base cs0_base report set_rows.now rom_rows.now set logical address levels.now job counts.old image.now)).byte value.old }
+    ensures reply { result ≡ (byte_call false flash_base cs0_base report set_rows.now rom_rows.now set logical address levels.now job counts.old image.now).number }
+    ensures counts { counts.new ≡ counts_left job counts.old (byte_call false flash_base cs0_base report set_rows.now rom_rows.now set logical address levels.now job counts.old image.now) }
+    ensures value { value.new ≡ value_after result (byte_of (byte_call false flash_base cs0_base report set_rows.now rom_rows.now set logical address levels.now job counts.old image.now)).byte value.old }
 {
     if !job_counts::is_job(job) {
         return job_counts::no_job(image, flash_base, cs0_base) as u32;
@@ -102,9 +102,9 @@ pub fn demangled_byte_call(
     counts: &mut [u32; JOBS],
     value: &mut u8,
 ) -> u32
-    ensures reply { result ≡ (byteCall true flash_base cs0_base report set_rows.now rom_rows.now set logical address levels.now job counts.old image.now).number }
-    ensures counts { counts.new ≡ countsLeft job counts.old (byteCall true flash_base cs0_base report set_rows.now rom_rows.now set logical address levels.now job counts.old image.now) }
-    ensures value { value.new ≡ valueAfter result (byteOf (byteCall true flash_base cs0_base report set_rows.now rom_rows.now set logical address levels.now job counts.old image.now)).byte value.old }
+    ensures reply { result ≡ (byte_call true flash_base cs0_base report set_rows.now rom_rows.now set logical address levels.now job counts.old image.now).number }
+    ensures counts { counts.new ≡ counts_left job counts.old (byte_call true flash_base cs0_base report set_rows.now rom_rows.now set logical address levels.now job counts.old image.now) }
+    ensures value { value.new ≡ value_after result (byte_of (byte_call true flash_base cs0_base report set_rows.now rom_rows.now set logical address levels.now job counts.old image.now)).byte value.old }
 {
     if !job_counts::is_job(job) {
         return job_counts::no_job(image, flash_base, cs0_base) as u32;
@@ -142,9 +142,9 @@ pub fn own_byte_call(
     counts: &mut [u32; JOBS],
     value: &mut u8,
 ) -> u32
-    ensures reply { result ≡ (ownCall flash_base cs0_base report set_rows.now rom_rows.now set address levels.now job counts.old image.now).number }
-    ensures counts { counts.new ≡ countsLeft job counts.old (ownCall flash_base cs0_base report set_rows.now rom_rows.now set address levels.now job counts.old image.now) }
-    ensures value { value.new ≡ valueAfter result (byteOf (ownCall flash_base cs0_base report set_rows.now rom_rows.now set address levels.now job counts.old image.now)).byte value.old }
+    ensures reply { result ≡ (own_call flash_base cs0_base report set_rows.now rom_rows.now set address levels.now job counts.old image.now).number }
+    ensures counts { counts.new ≡ counts_left job counts.old (own_call flash_base cs0_base report set_rows.now rom_rows.now set address levels.now job counts.old image.now) }
+    ensures value { value.new ≡ value_after result (byte_of (own_call flash_base cs0_base report set_rows.now rom_rows.now set address levels.now job counts.old image.now)).byte value.old }
 {
     if !job_counts::is_job(job) {
         return job_counts::no_job(image, flash_base, cs0_base) as u32;

@@ -2,10 +2,10 @@
 #![tactic(auto)]
 
 ghost use Rattle.std.specs.Prelude.{◌≡◌};
-ghost use Rattle.c_board.specs.Value.{valueAfter};
-ghost use Rattle.c_mangle.specs.Board.{mangleCall, demangleCall};
+ghost use Rattle.c_board.specs.Value.{value_after};
+ghost use Rattle.c_mangle.specs.Board.{mangle_call, demangle_call};
 
-#[tactic(auto, unfolding(crate::specs::Board::mangleCall, info::specs::Lent::mangleAddress, c_board::specs::Board::pinsFrom))]
+#[tactic(auto, unfolding(crate::specs::Board::mangle_call, info::specs::Lent::mangle_address, c_board::specs::Board::pins_from))]
 pub fn mangle_call(
     pins_number: u8,
     rom_pins: u8,
@@ -18,8 +18,8 @@ pub fn mangle_call(
     levels: &[u8; 5],
     value: &mut u32,
 ) -> u32
-    ensures reply { result ≡ (mangleCall pins_number rom_pins addr.now control.now served set_rows.now rom_rows.now address levels.now).number }
-    ensures value { value.new ≡ valueAfter result (mangleCall pins_number rom_pins addr.now control.now served set_rows.now rom_rows.now address levels.now).value value.old }
+    ensures reply { result ≡ (mangle_call pins_number rom_pins addr.now control.now served set_rows.now rom_rows.now address levels.now).number }
+    ensures value { value.new ≡ value_after result (mangle_call pins_number rom_pins addr.now control.now served set_rows.now rom_rows.now address levels.now).value value.old }
 {
     let pins = c_board::pins_from(pins_number, rom_pins, [0; 8], *addr, *control);
     let set = c_board::levels_from(*levels);
@@ -32,10 +32,10 @@ pub fn mangle_call(
     0
 }
 
-#[tactic(auto, unfolding(crate::specs::Board::demangleCall))]
+#[tactic(auto, unfolding(crate::specs::Board::demangle_call))]
 pub fn demangle_call(pins_number: u8, data: &[u8; 8], byte: u8, value: &mut u8) -> u32
-    ensures reply { result ≡ (demangleCall pins_number «data».now byte).number }
-    ensures value { value.new ≡ valueAfter result (demangleCall pins_number «data».now byte).value value.old }
+    ensures reply { result ≡ (demangle_call pins_number «data».now byte).number }
+    ensures value { value.new ≡ value_after result (demangle_call pins_number «data».now byte).value value.old }
 {
     let r = info::demangle_by(pins_number, *data, byte);
     if r.number != 0 {

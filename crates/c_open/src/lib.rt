@@ -2,8 +2,8 @@
 #![tactic(auto)]
 
 ghost use Rattle.std.specs.Prelude.{◌≡◌};
-ghost use Rattle.fw_parser.specs.Opening.{setRowsLeft, romRowsLeft};
-ghost use Rattle.c_open.specs.Opening.{openCall, openingOut};
+ghost use Rattle.fw_parser.specs.Opening.{set_rows_left, rom_rows_left};
+ghost use Rattle.c_open.specs.Opening.{open_call, opening_out};
 
 use c_report::OneromReport;
 use window::Settings;
@@ -24,9 +24,9 @@ pub fn open_call(
     set_rows: &mut [u32],
     rom_rows: &mut [u32],
 ) -> OneromOpening
-    ensures reply { result ≡ openingOut (openCall flash_base cs0_base info_offset set_rows.old rom_rows.old image.now) }
-    ensures sets { set_rows.new ≡ setRowsLeft (openCall flash_base cs0_base info_offset set_rows.old rom_rows.old image.now) set_rows.old }
-    ensures roms { rom_rows.new ≡ romRowsLeft (openCall flash_base cs0_base info_offset set_rows.old rom_rows.old image.now) rom_rows.old }
+    ensures reply { result ≡ opening_out (open_call flash_base cs0_base info_offset set_rows.old rom_rows.old image.now) }
+    ensures sets { set_rows.new ≡ set_rows_left (open_call flash_base cs0_base info_offset set_rows.old rom_rows.old image.now) set_rows.old }
+    ensures roms { rom_rows.new ≡ rom_rows_left (open_call flash_base cs0_base info_offset set_rows.old rom_rows.old image.now) rom_rows.old }
 {
     let settings = Settings {
         flash_base,

@@ -7,25 +7,25 @@ use Rattle.types.specs.declared.McuLine.{McuLine}
 use Rattle.types.specs.declared.SdrrCsSet.{SdrrCsSet}
 use Rattle.board.specs.declared.BoardPins.{BoardPins}
 use Rattle.mangle.specs.declared.Mangled.{Mangled}
-use Rattle.info.specs.Lent.{lentBy, mangleOwn}
+use Rattle.info.specs.Lent.{lent_by, mangle_own}
 use Rattle.byte_reads.specs.declared.ByteRead.{ByteRead}
-use Rattle.byte_reads.specs.Code.{byteAt, shownFrom}
-use Rattle.own_reads.specs.Laws.Steps.{byte-own}
+use Rattle.byte_reads.specs.Code.{byte_at, shown_from}
+use Rattle.own_reads.specs.Laws.Steps.{byte_own}
 use Rattle.c_report.specs.declared.OneromReport.{OneromReport}
-use Rattle.c_handed.specs.Handed.{lineIn, pinsIn, boardIn}
-use Rattle.c_board.specs.Board.{levelsFrom}
-use Rattle.c_own.specs.Code.{ownOnCount}
+use Rattle.c_handed.specs.Handed.{line_in, pins_in, board_in}
+use Rattle.c_board.specs.Board.{levels_from}
+use Rattle.c_own.specs.Code.{own_on_count}
 
 module _ (f c : ℕ) (report : OneromReport) (sets roms : List ℕ) (set address : ℕ) (levels : List ℕ) (count : ℕ) (x : List ℕ)
-    (line : McuLine) (told : line ≡ lineIn report.header.line)
-    (pins : BoardPins) (held : pins ≡ pinsIn report.pins)
-    (given : SdrrCsSet) (taken : given ≡ levelsFrom levels)
-    (m : Mangled) (leads : m ≡ mangleOwn pins report.rom_sets.served sets roms set address given)
-    (raw : ByteRead) (read : raw ≡ byteAt f c line report.rom_sets.served sets set m count x)
-    (shown : ByteRead) (demangled : shown ≡ shownFrom 0 report.pins.«data» raw count) where
-  pub own-read : shown ≡ ownOnCount f c report sets roms set address levels count x
-  unfolding ownOnCount boardIn pinsIn
-  own-read =
-      byte-own f c (lentBy (boardIn f c report) sets roms) count x set address (levelsFrom levels) m
-      (leads ∙ ap₂ (λ (p : BoardPins) (s : SdrrCsSet). mangleOwn p report.rom_sets.served sets roms set address s) held taken)
+    (line : McuLine) (told : line ≡ line_in report.header.line)
+    (pins : BoardPins) (held : pins ≡ pins_in report.pins)
+    (given : SdrrCsSet) (taken : given ≡ levels_from levels)
+    (m : Mangled) (leads : m ≡ mangle_own pins report.rom_sets.served sets roms set address given)
+    (raw : ByteRead) (read : raw ≡ byte_at f c line report.rom_sets.served sets set m count x)
+    (shown : ByteRead) (demangled : shown ≡ shown_from 0 report.pins.«data» raw count) where
+  pub own_read : shown ≡ own_on_count f c report sets roms set address levels count x
+  unfolding own_on_count board_in pins_in
+  own_read =
+      byte_own f c (lent_by (board_in f c report) sets roms) count x set address (levels_from levels) m
+      (leads ∙ ap₂ (λ (p : BoardPins) (s : SdrrCsSet). mangle_own p report.rom_sets.served sets roms set address s) held taken)
       raw (read ∙ rw told refl) shown demangled

@@ -2,8 +2,8 @@
 #![tactic(auto)]
 
 ghost use Rattle.std.specs.Prelude.{◌≡◌};
-ghost use Rattle.c_board.specs.Value.{valueAfter};
-ghost use Rattle.c_own.specs.Code.{ownOnCount};
+ghost use Rattle.c_board.specs.Value.{value_after};
+ghost use Rattle.c_own.specs.Code.{own_on_count};
 
 use c_report::OneromReport;
 
@@ -21,9 +21,9 @@ pub fn own_byte_on_count(
     count: &mut u32,
     value: &mut u8,
 ) -> u32
-    ensures reply { result ≡ (ownOnCount flash_base cs0_base report set_rows.now rom_rows.now set address levels.now count.old image.now).number }
-    ensures count { count.new ≡ (ownOnCount flash_base cs0_base report set_rows.now rom_rows.now set address levels.now count.old image.now).count }
-    ensures value { value.new ≡ valueAfter result (ownOnCount flash_base cs0_base report set_rows.now rom_rows.now set address levels.now count.old image.now).byte value.old }
+    ensures reply { result ≡ (own_on_count flash_base cs0_base report set_rows.now rom_rows.now set address levels.now count.old image.now).number }
+    ensures count { count.new ≡ (own_on_count flash_base cs0_base report set_rows.now rom_rows.now set address levels.now count.old image.now).count }
+    ensures value { value.new ≡ value_after result (own_on_count flash_base cs0_base report set_rows.now rom_rows.now set address levels.now count.old image.now).byte value.old }
 {
     let header = report.header;
     let line = c_handed::line_in(header.line);

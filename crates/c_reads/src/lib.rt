@@ -2,14 +2,14 @@
 #![tactic(auto)]
 
 ghost use Rattle.std.specs.Prelude.{◌≡◌, true, false, length};
-ghost use Rattle.info.specs.Reads.{bufferLeft};
-ghost use Rattle.c_board.specs.Value.{valueAfter};
-ghost use Rattle.c_reads.specs.Code.{dataOnCount, byteOnCount};
+ghost use Rattle.info.specs.Reads.{buffer_left};
+ghost use Rattle.c_board.specs.Value.{value_after};
+ghost use Rattle.c_reads.specs.Code.{data_on_count, byte_on_count};
 
 use c_report::OneromReport;
 use mangle::Mangled;
 
-#[tactic(auto, unfolding(crate::specs::Code::dataOnCount, c_handed::specs::Handed::boardIn))]
+#[tactic(auto, unfolding(crate::specs::Code::data_on_count, c_handed::specs::Handed::board_in))]
 pub fn data_on_count(
     image: &[u8],
     flash_base: u32,
@@ -21,9 +21,9 @@ pub fn data_on_count(
     buffer: &mut [u8],
     count: &mut u32,
 ) -> u32
-    ensures reply { result ≡ (dataOnCount flash_base cs0_base report set_rows.now set offset (length buffer.old) count.old image.now).number }
-    ensures buffer { buffer.new ≡ bufferLeft (dataOnCount flash_base cs0_base report set_rows.now set offset (length buffer.old) count.old image.now) buffer.old }
-    ensures count { count.new ≡ (dataOnCount flash_base cs0_base report set_rows.now set offset (length buffer.old) count.old image.now).count }
+    ensures reply { result ≡ (data_on_count flash_base cs0_base report set_rows.now set offset (length buffer.old) count.old image.now).number }
+    ensures buffer { buffer.new ≡ buffer_left (data_on_count flash_base cs0_base report set_rows.now set offset (length buffer.old) count.old image.now) buffer.old }
+    ensures count { count.new ≡ (data_on_count flash_base cs0_base report set_rows.now set offset (length buffer.old) count.old image.now).count }
 {
     let board = c_handed::board_in(flash_base, cs0_base, report);
     let before = *count;
@@ -59,9 +59,9 @@ pub fn raw_byte_on_count(
     count: &mut u32,
     value: &mut u8,
 ) -> u32
-    ensures reply { result ≡ (byteOnCount false flash_base cs0_base report set_rows.now rom_rows.now set logical address levels.now count.old image.now).number }
-    ensures count { count.new ≡ (byteOnCount false flash_base cs0_base report set_rows.now rom_rows.now set logical address levels.now count.old image.now).count }
-    ensures value { value.new ≡ valueAfter result (byteOnCount false flash_base cs0_base report set_rows.now rom_rows.now set logical address levels.now count.old image.now).byte value.old }
+    ensures reply { result ≡ (byte_on_count false flash_base cs0_base report set_rows.now rom_rows.now set logical address levels.now count.old image.now).number }
+    ensures count { count.new ≡ (byte_on_count false flash_base cs0_base report set_rows.now rom_rows.now set logical address levels.now count.old image.now).count }
+    ensures value { value.new ≡ value_after result (byte_on_count false flash_base cs0_base report set_rows.now rom_rows.now set logical address levels.now count.old image.now).byte value.old }
 {
     let header = report.header;
     let line = c_handed::line_in(header.line);
@@ -97,9 +97,9 @@ pub fn demangled_byte_on_count(
     count: &mut u32,
     value: &mut u8,
 ) -> u32
-    ensures reply { result ≡ (byteOnCount true flash_base cs0_base report set_rows.now rom_rows.now set logical address levels.now count.old image.now).number }
-    ensures count { count.new ≡ (byteOnCount true flash_base cs0_base report set_rows.now rom_rows.now set logical address levels.now count.old image.now).count }
-    ensures value { value.new ≡ valueAfter result (byteOnCount true flash_base cs0_base report set_rows.now rom_rows.now set logical address levels.now count.old image.now).byte value.old }
+    ensures reply { result ≡ (byte_on_count true flash_base cs0_base report set_rows.now rom_rows.now set logical address levels.now count.old image.now).number }
+    ensures count { count.new ≡ (byte_on_count true flash_base cs0_base report set_rows.now rom_rows.now set logical address levels.now count.old image.now).count }
+    ensures value { value.new ≡ value_after result (byte_on_count true flash_base cs0_base report set_rows.now rom_rows.now set logical address levels.now count.old image.now).byte value.old }
 {
     let header = report.header;
     let line = c_handed::line_in(header.line);

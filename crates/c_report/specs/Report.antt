@@ -1,7 +1,7 @@
 -- The report as C and Rust hold it: every item's number and values, in numbers of their own widths.
 use Rattle.std.specs.Prelude.{ℕ, Bool}
 use Rattle.base.specs.Choice.{pick}
-use Rattle.type_numbers.specs.TypeNumbers.{lineNumber, storageNumber, portNumber}
+use Rattle.type_numbers.specs.TypeNumbers.{line_number, storage_number, port_number}
 use Rattle.text.specs.declared.Text.{Text}
 use Rattle.header.specs.declared.SdrrInfoFields.{SdrrInfoFields}
 use Rattle.extra_info.specs.declared.FirePioDefault.{FirePioDefault}
@@ -22,8 +22,8 @@ use Rattle.c_report.specs.declared.OneromReport.{OneromReport}
 abbrev pub bit : Bool → ℕ
 bit b = pick b 1 0
 
-unfoldable pub headerOut : SdrrInfoFields → OneromHeader
-headerOut f =
+unfoldable pub header_out : SdrrInfoFields → OneromHeader
+header_out f =
     record {
       major = f.version.major;
       minor = f.version.minor;
@@ -31,8 +31,8 @@ headerOut f =
       build = f.version.build;
       freq = f.freq;
       commit = f.commit;
-      line = lineNumber f.stm_line;
-      storage = storageNumber f.stm_storage;
+      line = line_number f.stm_line;
+      storage = storage_number f.stm_storage;
       overclock = bit f.overclock;
       swd_enabled = bit f.swd_enabled;
       preload_image_to_ram = bit f.preload_image_to_ram;
@@ -44,43 +44,43 @@ headerOut f =
       boot_config = f.boot_config;
     }
 
-unfoldable pub stringOut : Text → OneromString
-stringOut t = record { number = t.number; offset = t.offset; length = t.length; width = t.width }
+unfoldable pub string_out : Text → OneromString
+string_out t = record { number = t.number; offset = t.offset; length = t.length; width = t.width }
 
 -- 0 off, 1 on, 2 not given
-unfoldable pub pioNumber : FirePioDefault → ℕ
-pioNumber FirePioDefault.NotGiven = 2
-pioNumber (FirePioDefault.Given on) = bit on
+unfoldable pub pio_number : FirePioDefault → ℕ
+pio_number FirePioDefault.NotGiven = 2
+pio_number (FirePioDefault.Given on) = bit on
 
-unfoldable pub extraOut : ExtraInfoItem → OneromExtraInfo
-extraOut i =
+unfoldable pub extra_out : ExtraInfoItem → OneromExtraInfo
+extra_out i =
     record {
       number = i.number;
       usb_dfu = bit i.extra_info.usb_dfu;
-      usb_port = portNumber i.extra_info.usb_port;
+      usb_port = port_number i.extra_info.usb_port;
       vbus_pin = i.extra_info.vbus_pin;
-      fire_pio_default = pioNumber i.extra_info.fire_pio_default;
+      fire_pio_default = pio_number i.extra_info.fire_pio_default;
       rtt_ptr = i.extra_info.rtt_ptr;
       runtime_info_ptr = i.extra_info.runtime_info_ptr;
     }
 
 -- not looked for: both 0
-unfoldable pub metadataOut : MetadataItem → OneromMetadata
-metadataOut MetadataItem.NotLookedFor = record { looked_for = 0; number = 0 }
-metadataOut (MetadataItem.Looked n) = record { looked_for = 1; number = n }
+unfoldable pub metadata_out : MetadataItem → OneromMetadata
+metadata_out MetadataItem.NotLookedFor = record { looked_for = 0; number = 0 }
+metadata_out (MetadataItem.Looked n) = record { looked_for = 1; number = n }
 
-unfoldable pub setsOut : SetsItem → OneromSets
-setsOut s = record { number = s.number; rom_set_count = s.rom_set_count; served = s.served }
+unfoldable pub sets_out : SetsItem → OneromSets
+sets_out s = record { number = s.number; rom_set_count = s.rom_set_count; served = s.served }
 
-unfoldable pub pinsOut : PinsItem → OneromPins
-pinsOut i =
+unfoldable pub pins_out : PinsItem → OneromPins
+pins_out i =
     record {
       number = i.number;
-      data_port = portNumber i.pins.data_port;
-      addr_port = portNumber i.pins.addr_port;
-      cs_port = portNumber i.pins.cs_port;
-      sel_port = portNumber i.pins.sel_port;
-      status_port = portNumber i.pins.status_port;
+      data_port = port_number i.pins.data_port;
+      addr_port = port_number i.pins.addr_port;
+      cs_port = port_number i.pins.cs_port;
+      sel_port = port_number i.pins.sel_port;
+      status_port = port_number i.pins.status_port;
       rom_pins = i.pins.rom_pins;
       «data» = i.pins.«data»;
       addr = i.pins.addr;
@@ -111,14 +111,14 @@ pinsOut i =
       addr2 = i.pins.addr2;
     }
 
-unfoldable pub reportOut : SdrrInfo → OneromReport
-reportOut r =
+unfoldable pub report_out : SdrrInfo → OneromReport
+report_out r =
     record {
-      header = headerOut r.fields;
-      build_date = stringOut r.build_date;
-      hw_rev = stringOut r.hw_rev;
-      extra_info = extraOut r.extra_info;
-      metadata = metadataOut r.metadata;
-      rom_sets = setsOut r.rom_sets;
-      pins = pinsOut r.pins;
+      header = header_out r.fields;
+      build_date = string_out r.build_date;
+      hw_rev = string_out r.hw_rev;
+      extra_info = extra_out r.extra_info;
+      metadata = metadata_out r.metadata;
+      rom_sets = sets_out r.rom_sets;
+      pins = pins_out r.pins;
     }

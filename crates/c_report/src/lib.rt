@@ -2,7 +2,7 @@
 #![tactic(auto)]
 
 ghost use Rattle.std.specs.Prelude.{◌≡◌};
-ghost use Rattle.c_report.specs.Report.{bit, headerOut, stringOut, pioNumber, extraOut, metadataOut, setsOut, pinsOut, reportOut};
+ghost use Rattle.c_report.specs.Report.{bit, header_out, string_out, pio_number, extra_out, metadata_out, sets_out, pins_out, report_out};
 
 use extra_info::{ExtraInfoItem, FirePioDefault};
 use header::SdrrInfoFields;
@@ -127,9 +127,9 @@ fn bit_of(b: bool) -> u8
     if b { 1 } else { 0 }
 }
 
-#[tactic(auto, unfolding(crate::specs::Report::headerOut))]
+#[tactic(auto, unfolding(crate::specs::Report::header_out))]
 fn header_out(f: SdrrInfoFields) -> OneromHeader
-    ensures { result ≡ headerOut f }
+    ensures { result ≡ header_out f }
 {
     let version = f.version;
     let line = f.stm_line;
@@ -157,9 +157,9 @@ fn header_out(f: SdrrInfoFields) -> OneromHeader
     }
 }
 
-#[tactic(auto, unfolding(crate::specs::Report::stringOut))]
+#[tactic(auto, unfolding(crate::specs::Report::string_out))]
 fn string_out(t: Text) -> OneromString
-    ensures { result ≡ stringOut t }
+    ensures { result ≡ string_out t }
 {
     OneromString {
         number: t.number,
@@ -169,9 +169,9 @@ fn string_out(t: Text) -> OneromString
     }
 }
 
-#[tactic(auto, unfolding(crate::specs::Report::pioNumber))]
+#[tactic(auto, unfolding(crate::specs::Report::pio_number))]
 fn pio_number(p: FirePioDefault) -> u8
-    ensures { result ≡ pioNumber p }
+    ensures { result ≡ pio_number p }
 {
     match p {
         FirePioDefault::NotGiven => 2,
@@ -179,9 +179,9 @@ fn pio_number(p: FirePioDefault) -> u8
     }
 }
 
-#[tactic(auto, unfolding(crate::specs::Report::extraOut))]
+#[tactic(auto, unfolding(crate::specs::Report::extra_out))]
 fn extra_out(i: ExtraInfoItem) -> OneromExtraInfo
-    ensures { result ≡ extraOut i }
+    ensures { result ≡ extra_out i }
 {
     let e = i.extra_info;
     let usb_port = e.usb_port;
@@ -197,9 +197,9 @@ fn extra_out(i: ExtraInfoItem) -> OneromExtraInfo
     }
 }
 
-#[tactic(auto, unfolding(crate::specs::Report::metadataOut))]
+#[tactic(auto, unfolding(crate::specs::Report::metadata_out))]
 fn metadata_out(m: MetadataItem) -> OneromMetadata
-    ensures { result ≡ metadataOut m }
+    ensures { result ≡ metadata_out m }
 {
     match m {
         MetadataItem::NotLookedFor => OneromMetadata {
@@ -213,9 +213,9 @@ fn metadata_out(m: MetadataItem) -> OneromMetadata
     }
 }
 
-#[tactic(auto, unfolding(crate::specs::Report::setsOut))]
+#[tactic(auto, unfolding(crate::specs::Report::sets_out))]
 fn sets_out(s: SetsItem) -> OneromSets
-    ensures { result ≡ setsOut s }
+    ensures { result ≡ sets_out s }
 {
     OneromSets {
         number: s.number,
@@ -224,9 +224,9 @@ fn sets_out(s: SetsItem) -> OneromSets
     }
 }
 
-#[tactic(auto, unfolding(crate::specs::Report::pinsOut))]
+#[tactic(auto, unfolding(crate::specs::Report::pins_out))]
 fn pins_out(i: PinsItem) -> OneromPins
-    ensures { result ≡ pinsOut i }
+    ensures { result ≡ pins_out i }
 {
     let p = i.pins;
     let data_port = p.data_port;
@@ -276,9 +276,9 @@ fn pins_out(i: PinsItem) -> OneromPins
     }
 }
 
-#[tactic(auto, unfolding(crate::specs::Report::reportOut))]
+#[tactic(auto, unfolding(crate::specs::Report::report_out))]
 pub fn report_out(info: SdrrInfo) -> OneromReport
-    ensures { result ≡ reportOut info }
+    ensures { result ≡ report_out info }
 {
     let fields = info.fields;
     let build_date = info.build_date;

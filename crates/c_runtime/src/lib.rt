@@ -2,15 +2,15 @@
 #![tactic(auto)]
 
 ghost use Rattle.std.specs.Prelude.{◌≡◌};
-ghost use Rattle.runtime_info.specs.Runtime.{runtimeOf};
-ghost use Rattle.runtime_info.specs.Words.{numberOf, wordsAfter};
+ghost use Rattle.runtime_info.specs.Runtime.{runtime_of};
+ghost use Rattle.runtime_info.specs.Words.{number_of, words_after};
 
 use runtime_info::SdrrRuntimeInfo;
 
 // The call for C and Rust: a refusal leaves the lent words.
 pub fn runtime_call(record: &[u8], ram_base: u32, words: &mut [u32; 25]) -> u32
-    ensures reply { result ≡ numberOf (runtimeOf «record».now ram_base) }
-    ensures words { words.new ≡ wordsAfter (runtimeOf «record».now ram_base) words.old }
+    ensures reply { result ≡ number_of (runtime_of «record».now ram_base) }
+    ensures words { words.new ≡ words_after (runtime_of «record».now ram_base) words.old }
 {
     match runtime_info::parse_ram(record, ram_base) {
         SdrrRuntimeInfo::Refused(number) => number as u32,

@@ -2,13 +2,13 @@
 #![tactic(auto)]
 
 ghost use Rattle.std.specs.Prelude.{◌≡◌};
-ghost use Rattle.set_data.specs.Data.{sizeCall};
-ghost use Rattle.same_set.specs.Same.{sameSet};
-ghost use Rattle.c_board.specs.Value.{valueAfter};
+ghost use Rattle.set_data.specs.Data.{size_call};
+ghost use Rattle.same_set.specs.Same.{same_set};
+ghost use Rattle.c_board.specs.Value.{value_after};
 
 pub fn size_call(served: u32, set_rows: &[u32], set: u32, value: &mut u32) -> u32
-    ensures reply { result ≡ (sizeCall served set_rows.now set).number }
-    ensures value { value.new ≡ valueAfter result (sizeCall served set_rows.now set).value value.old }
+    ensures reply { result ≡ (size_call served set_rows.now set).number }
+    ensures value { value.new ≡ value_after result (size_call served set_rows.now set).value value.old }
 {
     let s = set_data::get_rom_set_size(served, set_rows, set);
     if s.number != 0 {
@@ -26,8 +26,8 @@ pub fn same_call(
     b: u32,
     value: &mut u32,
 ) -> u32
-    ensures reply { result ≡ (sameSet served set_rows.now rom_rows.now a b).number }
-    ensures value { value.new ≡ valueAfter result (sameSet served set_rows.now rom_rows.now a b).value value.old }
+    ensures reply { result ≡ (same_set served set_rows.now rom_rows.now a b).number }
+    ensures value { value.new ≡ value_after result (same_set served set_rows.now rom_rows.now a b).value value.old }
 {
     let same = same_set::same_set(served, set_rows, rom_rows, a, b);
     if same.number != 0 {

@@ -2,11 +2,11 @@
 #![tactic(auto)]
 
 ghost use Rattle.std.specs.Prelude.{◌≡◌};
-ghost use Rattle.text.specs.Text.{stringCall, partAfter};
+ghost use Rattle.text.specs.Text.{string_call, part_after};
 
-#[tactic(auto, unfolding(text::specs::Text::stringCall))]
+#[tactic(auto, unfolding(text::specs::Text::string_call))]
 fn string_at(image: &[u8], base: u32, pointer: u32) -> text::Text
-    ensures { result ≡ stringCall base pointer image.now }
+    ensures { result ≡ string_call base pointer image.now }
 {
     if window::past_window(image, base) {
         return text::Text {
@@ -20,8 +20,8 @@ fn string_at(image: &[u8], base: u32, pointer: u32) -> text::Text
 }
 
 pub fn string_call(image: &[u8], base: u32, pointer: u32, part: &mut [u32; text::PART_WORDS]) -> u32
-    ensures reply { result ≡ (stringCall base pointer image.now).number }
-    ensures part { part.new ≡ partAfter (stringCall base pointer image.now) part.old }
+    ensures reply { result ≡ (string_call base pointer image.now).number }
+    ensures part { part.new ≡ part_after (string_call base pointer image.now) part.old }
 {
     let t = string_at(image, base, pointer);
     if t.number != 0 {

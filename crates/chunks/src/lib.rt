@@ -3,7 +3,7 @@
 
 ghost use Rattle.std.specs.Prelude.{◌≡◌, ◌+◌, ◌≤◌, length, take, drop};
 ghost use Rattle.prog.specs.Prog.{run};
-ghost use Rattle.text.specs.Text.{refusedText, bytesOf, beforeNul, judged, textP};
+ghost use Rattle.text.specs.Text.{refused_text, bytes_of, before_nul, judged, text_p};
 
 // A string is read in chunks of 64 bytes, at most 1,024.
 pub const CHUNK: usize = 64;
@@ -12,7 +12,7 @@ const LONGEST: usize = 1024;
 
 // How many bytes come before the first NUL; all of them where there is none.
 fn before_nul(s: &[u8]) -> usize
-    ensures { result ≡ length (beforeNul s.now) }
+    ensures { result ≡ length (before_nul s.now) }
 {
     let mut i = 0;
     while i < s.len() {
@@ -26,7 +26,7 @@ fn before_nul(s: &[u8]) -> usize
 
 // An empty part, and in the lent words the refusal's number and no width.
 fn no_part<'a>(image: &'a [u8], refusal: u8, number: &mut u8, width: &mut u32) -> &'a [u8]
-    ensures part { result.now ≡ bytesOf image.now (refusedText refusal) }
+    ensures part { result.now ≡ bytes_of image.now (refused_text refusal) }
     ensures number { number.new ≡ refusal }
     ensures width { width.new ≡ 0 }
 {
@@ -38,7 +38,7 @@ fn no_part<'a>(image: &'a [u8], refusal: u8, number: &mut u8, width: &mut u32) -
 // A string whose NUL was found, of n bytes from an offset on.
 fn judge<'a>(image: &'a [u8], offset: usize, n: usize, number: &mut u8, width: &mut u32) -> &'a [u8]
     requires { (offset + n ≤ length image.now) × (n ≤ 1024) }
-    ensures part { result.now ≡ bytesOf image.now (judged offset (take n (drop offset image.now))) }
+    ensures part { result.now ≡ bytes_of image.now (judged offset (take n (drop offset image.now))) }
     ensures number { number.new ≡ (judged offset (take n (drop offset image.now))).number }
     ensures width { width.new ≡ (judged offset (take n (drop offset image.now))).width }
 {
@@ -60,9 +60,9 @@ pub fn read_string<'a>(
     number: &mut u8,
     width: &mut u32,
 ) -> &'a [u8]
-    ensures part { result.now ≡ bytesOf image.now (run (textP base ptr) image.now) }
-    ensures number { number.new ≡ (run (textP base ptr) image.now).number }
-    ensures width { width.new ≡ (run (textP base ptr) image.now).width }
+    ensures part { result.now ≡ bytes_of image.now (run (text_p base ptr) image.now) }
+    ensures number { number.new ≡ (run (text_p base ptr) image.now).number }
+    ensures width { width.new ≡ (run (text_p base ptr) image.now).width }
 {
     if ptr < base {
         return no_part(image, 3, number, width);

@@ -3,14 +3,14 @@ use Rattle.std.specs.Prelude.{ℕ, ◌<◌, ◌≡◌, ◌⊎◌, List, map, len
 use Rattle.text.specs.declared.Text.{Text}
 use Rattle.text.specs.Text as T
 use Rattle.metadata.specs.declared.MetadataItem.{MetadataItem}
-use Rattle.walk.specs.Walk.{RomSet, romsOf}
-use Rattle.walk.specs.Rows.{setRows, romFront}
+use Rattle.walk.specs.Walk.{RomSet, roms_of}
+use Rattle.walk.specs.Rows.{set_rows_of, rom_front}
 use Rattle.sdrr_info.specs.declared.SdrrInfo.{SdrrInfo}
 use Rattle.fw_parser.specs.Opening.{Opened, refused, opened}
 
 -- a name of the list, by its ROM row
-abbrev pub nameOf : List Text → ℕ → Text
-nameOf names i = get_or names i (T.refusedText 1)
+abbrev pub name_of : List Text → ℕ → Text
+name_of names i = get_or names i (T.refused_text 1)
 
 -- at least one item is marked as ended, the name of each ROM row being an item too
 abbrev pub EndedReport : SdrrInfo → List RomSet → List Text → Type 0
@@ -20,7 +20,7 @@ EndedReport r ss names =
     ⊎ ((r.extra_info.number ≡ 2)
     ⊎ ((r.metadata ≡ MetadataItem.Looked 2)
     ⊎ ((r.rom_sets.number ≡ 2)
-    ⊎ (((i : ℕ) × (i < length (romsOf ss)) × ((nameOf names i).number ≡ 2))
+    ⊎ (((i : ℕ) × (i < length (roms_of ss)) × ((name_of names i).number ≡ 2))
     ⊎ (r.pins.number ≡ 2))))))
 
 -- the opening is refused as ended, or an item is ended
@@ -32,17 +32,17 @@ EndedOpening (opened r ss names) = EndedReport r ss names
 -- that are ended serve none. The rows go with the sets item, but for the words of the names, which are items themselves: each ROM row has one.
 pub record Kept (r : SdrrInfo) (ss : List RomSet) (names : List Text) (r' : SdrrInfo) (ss' : List RomSet) (names' : List Text) : Type 0 where
   pub header : r.fields ≡ r'.fields
-  pub build-date : (r.build_date.number ≡ 2) ⊎ (r.build_date ≡ r'.build_date)
+  pub build_date : (r.build_date.number ≡ 2) ⊎ (r.build_date ≡ r'.build_date)
   pub revision : (r.hw_rev.number ≡ 2) ⊎ (r.hw_rev ≡ r'.hw_rev)
-  pub extra-info : (r.extra_info.number ≡ 2) ⊎ (r.extra_info ≡ r'.extra_info)
+  pub extra_info : (r.extra_info.number ≡ 2) ⊎ (r.extra_info ≡ r'.extra_info)
   pub metadata : (r.metadata ≡ MetadataItem.Looked 2) ⊎ (r.metadata ≡ r'.metadata)
   pub sets :
       ((r.rom_sets.number ≡ 2) × (r.rom_sets.served ≡ 0))
       ⊎ ((r.rom_sets ≡ r'.rom_sets)
-      × (setRows ss ≡ setRows ss')
-      × (map romFront (romsOf ss) ≡ map romFront (romsOf ss')))
-  pub each-name : (i : ℕ) → i < length (romsOf ss)
-      → (i < length names) × (((nameOf names i).number ≡ 2) ⊎ ((i < length names') × (nameOf names i ≡ nameOf names' i)))
+      × (set_rows_of ss ≡ set_rows_of ss')
+      × (map rom_front (roms_of ss) ≡ map rom_front (roms_of ss')))
+  pub each_name : (i : ℕ) → i < length (roms_of ss)
+      → (i < length names) × (((name_of names i).number ≡ 2) ⊎ ((i < length names') × (name_of names i ≡ name_of names' i)))
   pub pins : (r.pins.number ≡ 2) ⊎ (r.pins ≡ r'.pins)
 
 -- what a cut image's opening shows beside the whole's: refused as ended, or every item kept

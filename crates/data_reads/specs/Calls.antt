@@ -2,5 +2,5 @@
 use Rattle.info.specs.Reads.{Reply}
 use Rattle.data_reads.specs.declared.Counted.{Counted}
 
-abbrev pub countedOf : Reply → Counted
-countedOf r = record { number = r.number; count = r.count }
+abbrev pub counted_of : Reply → Counted
+counted_of r = record { number = r.number; count = r.count }

@@ -3,10 +3,10 @@
 #![tactic(auto)]
 
 ghost use Rattle.std.specs.Prelude.{◌≡◌, [], length};
-ghost use Rattle.info.specs.Lent.{lentBy};
-ghost use Rattle.info.specs.Reads.{range, romRead, bufferLeft};
-ghost use Rattle.data_reads.specs.Calls.{countedOf};
-ghost use Rattle.data_reads.specs.Code.{placedOf};
+ghost use Rattle.info.specs.Lent.{lent_by};
+ghost use Rattle.info.specs.Reads.{range, rom_read, buffer_left};
+ghost use Rattle.data_reads.specs.Calls.{counted_of};
+ghost use Rattle.data_reads.specs.Code.{placed_of};
 
 use board::Board;
 use set_data::Found;
@@ -31,9 +31,9 @@ fn copy(to: &mut [u8], from: &[u8])
 }
 
 // Where n bytes of a set start, from an offset on: 1 before anything else.
-#[tactic(auto, unfolding(crate::specs::Code::placedOf))]
+#[tactic(auto, unfolding(crate::specs::Code::placed_of))]
 fn placed(image: &[u8], board: Board, set_rows: &[u32], set: u32, offset: u32, n: usize) -> Found
-    ensures { result ≡ placedOf board.flash_base board.cs0_base (lentBy board set_rows.now []) set offset n image.now }
+    ensures { result ≡ placed_of board.flash_base board.cs0_base (lent_by board set_rows.now []) set offset n image.now }
 {
     if window::beyond_window(image, board.flash_base, board.cs0_base) {
         return Found { number: 1, at: 0 };
@@ -54,8 +54,8 @@ pub fn data_on_count(
     buffer: &mut [u8],
     count: u32,
 ) -> Counted
-    ensures reply { result ≡ countedOf (romRead board.flash_base board.cs0_base (lentBy board set_rows.now []) count (range set offset (length buffer.old)) image.now) }
-    ensures buffer { buffer.new ≡ bufferLeft (romRead board.flash_base board.cs0_base (lentBy board set_rows.now []) count (range set offset (length buffer.old)) image.now) buffer.old }
+    ensures reply { result ≡ counted_of (rom_read board.flash_base board.cs0_base (lent_by board set_rows.now []) count (range set offset (length buffer.old)) image.now) }
+    ensures buffer { buffer.new ≡ buffer_left (rom_read board.flash_base board.cs0_base (lent_by board set_rows.now []) count (range set offset (length buffer.old)) image.now) buffer.old }
 {
     let n = buffer.len();
     let found = placed(image, board, set_rows, set, offset, n);

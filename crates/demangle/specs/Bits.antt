@@ -6,18 +6,18 @@ use Rattle.base.specs.Choice.{pick}
 abbrev pub none : ℕ
 none = 255
 
-abbrev pub isBit : ℕ → Bool
-isBit b = ltb b 32
+abbrev pub is_bit : ℕ → Bool
+is_bit b = ltb b 32
 
 -- bit i of x
-unfoldable pub bitAt : ℕ → ℕ → ℕ
-bitAt x i = x / 2 ^ i % 2
+unfoldable pub bit_at : ℕ → ℕ → ℕ
+bit_at x i = x / 2 ^ i % 2
 
 -- what entry e takes from the word x: its bit e, or low where e is none
-unfoldable pub takenBit : ℕ → ℕ → ℕ
-takenBit x e = pick (isBit e) (bitAt x e) 0
+unfoldable pub taken_bit : ℕ → ℕ → ℕ
+taken_bit x e = pick (is_bit e) (bit_at x e) 0
 
 -- the number whose bit p is what entry p takes
 unfoldable pub gather : List ℕ → ℕ → ℕ
 gather [] x = 0
-gather (e ∷ es) x = takenBit x e + 2 * gather es x
+gather (e ∷ es) x = taken_bit x e + 2 * gather es x

@@ -4,10 +4,10 @@ use Rattle.base.specs.Choice.{pick}
 use Rattle.demangle.specs.declared.Demangled.{Demangled}
 use Rattle.demangle.specs.Bits.{gather}
 
-unfoldable pub allBelow : ℕ → List ℕ → Bool
-allBelow n [] = true
-allBelow n (p ∷ ps) = ltb p n && allBelow n ps
+unfoldable pub all_below : ℕ → List ℕ → Bool
+all_below n [] = true
+all_below n (p ∷ ps) = ltb p n && all_below n ps
 
 -- 79: a data pin at 8 or above
 unfoldable pub demangle : List ℕ → ℕ → Demangled
-demangle pins byte = record { number = pick (allBelow 8 pins) 0 79; value = pick (allBelow 8 pins) (gather pins byte) 0 }
+demangle pins byte = record { number = pick (all_below 8 pins) 0 79; value = pick (all_below 8 pins) (gather pins byte) 0 }

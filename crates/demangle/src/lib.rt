@@ -2,8 +2,8 @@
 #![tactic(auto)]
 
 ghost use Rattle.std.specs.Prelude.{◌≡◌, ◌+◌, ◌*◌, ◌≤◌, ◌<◌, ◌^◌, length};
-ghost use Rattle.demangle.specs.Bits.{takenBit, gather};
-ghost use Rattle.demangle.specs.Demangle.{allBelow, demangle};
+ghost use Rattle.demangle.specs.Bits.{taken_bit, gather};
+ghost use Rattle.demangle.specs.Demangle.{all_below, demangle};
 
 // The demangled byte; or a number, with value 0.
 #[derive(Clone, Copy)]
@@ -13,9 +13,9 @@ pub struct Demangled {
 }
 
 // The bit of the word that an entry takes.
-#[tactic(auto, unfolding(crate::specs::Bits::takenBit, crate::specs::Bits::bitAt))]
+#[tactic(auto, unfolding(crate::specs::Bits::taken_bit, crate::specs::Bits::bit_at))]
 pub fn bit_of(x: u32, e: u8) -> u32
-    ensures { result ≡ takenBit x e }
+    ensures { result ≡ taken_bit x e }
 {
     if e < 32 { (x >> e) & 1 } else { 0 }
 }
@@ -52,7 +52,7 @@ fn unplace(data: [u8; 8], byte: u8) -> u8
 }
 
 fn all_below(n: u8, pins: &[u8]) -> bool
-    ensures { result ≡ allBelow n pins.now }
+    ensures { result ≡ all_below n pins.now }
 {
     let mut i: usize = 0;
     while i < pins.len() {

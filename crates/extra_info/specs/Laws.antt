@@ -2,35 +2,35 @@
 -- Assumes nothing.
 use Rattle.std.specs.Prelude.{ℕ, ◌≤◌, ◌<◌, ◌≡◌, true, false, List, length, take}
 use Rattle.std.proofs.Common.{lt-ltb, le-ltb}
-use Rattle.le.specs.Le.{flagAt}
+use Rattle.le.specs.Le.{flag_at}
 use Rattle.prog.specs.Laws.Honest.{Honest, honesty}
-use Rattle.prog.specs.Laws.Record.{front-byte, front-short}
+use Rattle.prog.specs.Laws.Record.{front_byte, front_short}
 use Rattle.version.specs.declared.FirmwareVersion.{FirmwareVersion}
 use Rattle.version.specs.Version.{from060}
 use Rattle.extra_info.specs.declared.FirePioDefault.{FirePioDefault}
 use Rattle.extra_info.specs.declared.ExtraInfoItem.{ExtraInfoItem}
-use Rattle.extra_info.specs.ExtraInfo.{pioDefaultOf, extraInfoFields, refusedExtraInfo, extraInfoOf, extraInfoP}
+use Rattle.extra_info.specs.ExtraInfo.{pio_default_of, extra_info_fields, refused_extra_info, extra_info_of, extra_info_p}
 
-pub extra-info-honest : (base pointer : ℕ) (v : FirmwareVersion) → Honest (λ (a : ExtraInfoItem). a.number ≡ 2) (extraInfoP base pointer v)
-unfolding extraInfoP
-extra-info-honest base pointer v = search honesty
+pub extra_info_honest : (base pointer : ℕ) (v : FirmwareVersion) → Honest (λ (a : ExtraInfoItem). a.number ≡ 2) (extra_info_p base pointer v)
+unfolding extra_info_p
+extra_info_honest base pointer v = search honesty
 
 module _ (v : FirmwareVersion) where
-  pub extra-info-front : (s : List ℕ) → extraInfoOf v (take 256 s) ≡ extraInfoOf v s
-  unfolding extraInfoOf extraInfoFields
-  extra-info-front s = simp (front-short 256, front-byte 256)
+  pub extra_info_front : (s : List ℕ) → extra_info_of v (take 256 s) ≡ extra_info_of v s
+  unfolding extra_info_of extra_info_fields
+  extra_info_front s = simp (front_short 256, front_byte 256)
 
   module _ (s : List ℕ) where
-    pub pio-given : from060 v ≡ true → pioDefaultOf v s ≡ FirePioDefault.Given (flagAt s 7)
-    pio-given e = rw e
+    pub pio_given : from060 v ≡ true → pio_default_of v s ≡ FirePioDefault.Given (flag_at s 7)
+    pio_given e = rw e
 
-    pub pio-not-given : from060 v ≡ false → pioDefaultOf v s ≡ FirePioDefault.NotGiven
-    pio-not-given e = rw e
+    pub pio_not_given : from060 v ≡ false → pio_default_of v s ≡ FirePioDefault.NotGiven
+    pio_not_given e = rw e
 
-    pub extra-info-short : length s < 256 → extraInfoOf v s ≡ refusedExtraInfo 2
-    unfolding extraInfoOf
-    extra-info-short h = rw (lt-ltb (length s) 256 h)
+    pub extra_info_short : length s < 256 → extra_info_of v s ≡ refused_extra_info 2
+    unfolding extra_info_of
+    extra_info_short h = rw (lt-ltb (length s) 256 h)
 
-    pub extra-info-whole : 256 ≤ length s → extraInfoOf v s ≡ record { number = 0; extra_info = extraInfoFields v s }
-    unfolding extraInfoOf
-    extra-info-whole h = rw (le-ltb (length s) 256 h)
+    pub extra_info_whole : 256 ≤ length s → extra_info_of v s ≡ record { number = 0; extra_info = extra_info_fields v s }
+    unfolding extra_info_of
+    extra_info_whole h = rw (le-ltb (length s) 256 h)

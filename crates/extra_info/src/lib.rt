@@ -3,7 +3,7 @@
 
 ghost use Rattle.std.specs.Prelude.{◌≡◌};
 ghost use Rattle.prog.specs.Prog.{run};
-ghost use Rattle.extra_info.specs.ExtraInfo.{pioDefaultOf, extraInfoFields, refusedExtraInfo, extraInfoOf, extraInfoP};
+ghost use Rattle.extra_info.specs.ExtraInfo.{pio_default_of, extra_info_fields, refused_extra_info, extra_info_of, extra_info_p};
 
 use types::SdrrMcuPort;
 use version::FirmwareVersion;
@@ -34,9 +34,9 @@ pub struct ExtraInfoItem {
     pub extra_info: SdrrExtraInfo,
 }
 
-#[tactic(auto, unfolding(crate::specs::ExtraInfo::noExtraInfo))]
+#[tactic(auto, unfolding(crate::specs::ExtraInfo::no_extra_info))]
 pub fn refuse(number: u8) -> ExtraInfoItem
-    ensures { result ≡ refusedExtraInfo number }
+    ensures { result ≡ refused_extra_info number }
 {
     ExtraInfoItem {
         number,
@@ -52,7 +52,7 @@ pub fn refuse(number: u8) -> ExtraInfoItem
 }
 
 fn fire_pio_default(data: &[u8], version: FirmwareVersion) -> FirePioDefault
-    ensures { result ≡ pioDefaultOf version «data».now }
+    ensures { result ≡ pio_default_of version «data».now }
 {
     if !version::from_0_6_0(version) {
         return FirePioDefault::NotGiven;
@@ -61,9 +61,9 @@ fn fire_pio_default(data: &[u8], version: FirmwareVersion) -> FirePioDefault
 }
 
 // The record's fields. A USB port that is none of the known ones becomes None.
-#[tactic(auto, unfolding(crate::specs::ExtraInfo::extraInfoFields))]
+#[tactic(auto, unfolding(crate::specs::ExtraInfo::extra_info_fields))]
 fn read_fields(data: &[u8], version: FirmwareVersion) -> SdrrExtraInfo
-    ensures { result ≡ extraInfoFields version «data».now }
+    ensures { result ≡ extra_info_fields version «data».now }
 {
     SdrrExtraInfo {
         rtt_ptr: le::u32_at(data, 0),
@@ -76,9 +76,9 @@ fn read_fields(data: &[u8], version: FirmwareVersion) -> SdrrExtraInfo
 }
 
 // The record at the front of data.
-#[tactic(auto, unfolding(crate::specs::ExtraInfo::extraInfoOf))]
+#[tactic(auto, unfolding(crate::specs::ExtraInfo::extra_info_of))]
 pub fn parse_extra_info(data: &[u8], version: FirmwareVersion) -> ExtraInfoItem
-    ensures { result ≡ extraInfoOf version «data».now }
+    ensures { result ≡ extra_info_of version «data».now }
 {
     if data.len() < EXTRA_INFO_SIZE {
         return refuse(2);
@@ -91,7 +91,7 @@ pub fn parse_extra_info(data: &[u8], version: FirmwareVersion) -> ExtraInfoItem
 
 // The record at a pointer, given to `parse_extra_info` as the image from there onward.
 pub fn read_extra_info(image: &[u8], base: u32, ptr: u32, version: FirmwareVersion) -> ExtraInfoItem
-    ensures { result ≡ run (extraInfoP base ptr version) image.now }
+    ensures { result ≡ run (extra_info_p base ptr version) image.now }
 {
     let number = window::pointer_number(image, base, ptr, EXTRA_INFO_SIZE);
     if number != 0 {

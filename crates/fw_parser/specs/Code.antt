@@ -3,22 +3,22 @@
 use Rattle.std.specs.Prelude.{ℕ, Bool, ◌||◌, eqb}
 use Rattle.header.specs.declared.SdrrInfoFields.{SdrrInfoFields}
 use Rattle.records.specs.declared.Records.{Records}
-use Rattle.sets_item.specs.Code.{itemOf}
+use Rattle.sets_item.specs.Code.{item_of}
 use Rattle.sdrr_info.specs.declared.SdrrInfo.{SdrrInfo}
 
 -- a walk's number that refuses the opening
-abbrev pub isShort : ℕ → Bool
-isShort n = eqb n 44 || eqb n 45
+abbrev pub is_short : ℕ → Bool
+is_short n = eqb n 44 || eqb n 45
 
 -- the report with that number
-unfoldable pub reportWith : SdrrInfoFields → Records → ℕ → SdrrInfo
-reportWith f r number =
+unfoldable pub report_with : SdrrInfoFields → Records → ℕ → SdrrInfo
+report_with f r number =
     record {
       fields = f;
       build_date = r.build_date;
       hw_rev = r.hw_rev;
       extra_info = r.extra_info;
       metadata = r.sets.metadata;
-      rom_sets = itemOf number r.sets.rom_set_count;
+      rom_sets = item_of number r.sets.rom_set_count;
       pins = r.pins;
     }

@@ -2,10 +2,10 @@
 #![tactic(auto)]
 
 ghost use Rattle.std.specs.Prelude.{◌≡◌};
-ghost use Rattle.text.specs.Text.{refusedText};
-ghost use Rattle.fw_parser.specs.Opening.{openWith, setRowsLeft, romRowsLeft};
-ghost use Rattle.fw_parser.specs.Reply.{noReport, openingReply};
-ghost use Rattle.fw_parser.specs.Code.{isShort, reportWith};
+ghost use Rattle.text.specs.Text.{refused_text};
+ghost use Rattle.fw_parser.specs.Opening.{open_with, set_rows_left, rom_rows_left};
+ghost use Rattle.fw_parser.specs.Reply.{no_report, opening_reply};
+ghost use Rattle.fw_parser.specs.Code.{is_short, report_with};
 
 use header::SdrrInfoFields;
 use metadata::MetadataItem;
@@ -23,7 +23,7 @@ pub struct Opening {
 }
 
 fn no_text() -> Text
-    ensures { result ≡ refusedText 0 }
+    ensures { result ≡ refused_text 0 }
 {
     Text {
         number: 0,
@@ -34,9 +34,9 @@ fn no_text() -> Text
 }
 
 // The report of a refused opening: zeros, the runtime pointer FFFFFFFF, metadata not looked for.
-#[tactic(auto, unfolding(crate::specs::Reply::noReport))]
+#[tactic(auto, unfolding(crate::specs::Reply::no_report))]
 fn no_report() -> SdrrInfo
-    ensures { result ≡ noReport }
+    ensures { result ≡ no_report }
 {
     SdrrInfo {
         fields: header::no_fields(),
@@ -55,15 +55,15 @@ fn no_report() -> SdrrInfo
 
 // 44 and 45, the only numbers of a walk that refuse the opening.
 fn is_short(number: u8) -> bool
-    ensures { result ≡ isShort number }
+    ensures { result ≡ is_short number }
 {
     base::either(number == 44, number == 45)
 }
 
 // The report with that number of the walk.
-#[tactic(auto, unfolding(crate::specs::Code::reportWith))]
+#[tactic(auto, unfolding(crate::specs::Code::report_with))]
 fn report(fields: SdrrInfoFields, records: Records, number: u8) -> SdrrInfo
-    ensures { result ≡ reportWith fields records number }
+    ensures { result ≡ report_with fields records number }
 {
     let build_date = records.build_date;
     let hw_rev = records.hw_rev;
@@ -90,9 +90,9 @@ pub fn parse_flash(
     set_rows: &mut [u32],
     rom_rows: &mut [u32],
 ) -> Opening
-    ensures reply { result ≡ openingReply (openWith settings set_rows.old rom_rows.old image.now) }
-    ensures sets { set_rows.new ≡ setRowsLeft (openWith settings set_rows.old rom_rows.old image.now) set_rows.old }
-    ensures roms { rom_rows.new ≡ romRowsLeft (openWith settings set_rows.old rom_rows.old image.now) rom_rows.old }
+    ensures reply { result ≡ opening_reply (open_with settings set_rows.old rom_rows.old image.now) }
+    ensures sets { set_rows.new ≡ set_rows_left (open_with settings set_rows.old rom_rows.old image.now) set_rows.old }
+    ensures roms { rom_rows.new ≡ rom_rows_left (open_with settings set_rows.old rom_rows.old image.now) rom_rows.old }
 {
     let none = no_report();
     if window::beyond_window(image, settings.flash_base, settings.cs0_base) {

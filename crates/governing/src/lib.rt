@@ -2,7 +2,7 @@
 #![tactic(auto)]
 
 ghost use Rattle.std.specs.Prelude.{◌≡◌};
-ghost use Rattle.governing.specs.Governing.{ungoverned, lacksFirstRom, governing, governingSet0, governingOwn};
+ghost use Rattle.governing.specs.Governing.{ungoverned, lacks_first_rom, governing, governing_set0, governing_own};
 
 use rows::SetWord;
 use types::SdrrRomType;
@@ -17,7 +17,7 @@ pub struct GoverningSet {
 
 // Whether a set has ROMs and its first ROM row can't be used.
 fn lacks_first_rom(set_rows: &[u32], rom_rows: &[u32], set: u32) -> bool
-    ensures { result ≡ lacksFirstRom set_rows.now rom_rows.now «set» }
+    ensures { result ≡ lacks_first_rom set_rows.now rom_rows.now «set» }
 {
     let count = rows::set_word(set_rows, set, SetWord::RomCount);
     let first = rows::set_word(set_rows, set, SetWord::FirstRom);
@@ -55,14 +55,14 @@ pub fn governing(set_rows: &[u32], rom_rows: &[u32], set: u32) -> GoverningSet
 }
 
 // Set 0 governs: 70 and 71 before its rows are looked at.
-#[tactic(auto, unfolding(crate::specs::Governing::governingSet0))]
+#[tactic(auto, unfolding(crate::specs::Governing::governing_set0))]
 pub fn governing_set_0(
     pins_number: u8,
     served: u32,
     set_rows: &[u32],
     rom_rows: &[u32],
 ) -> GoverningSet
-    ensures { result ≡ governingSet0 pins_number served set_rows.now rom_rows.now }
+    ensures { result ≡ governing_set0 pins_number served set_rows.now rom_rows.now }
 {
     if pins_number != 0 {
         return ungoverned_by(70);
@@ -74,7 +74,7 @@ pub fn governing_set_0(
 }
 
 // The named set governs: 80 and 4 before the pins are looked at. Set 0's rows are looked at only where set 0 is named.
-#[tactic(auto, unfolding(crate::specs::Governing::governingOwn))]
+#[tactic(auto, unfolding(crate::specs::Governing::governing_own))]
 pub fn governing_own(
     pins_number: u8,
     served: u32,
@@ -82,7 +82,7 @@ pub fn governing_own(
     rom_rows: &[u32],
     set: u32,
 ) -> GoverningSet
-    ensures { result ≡ governingOwn pins_number served set_rows.now rom_rows.now «set» }
+    ensures { result ≡ governing_own pins_number served set_rows.now rom_rows.now «set» }
 {
     if served <= set {
         return ungoverned_by(80);

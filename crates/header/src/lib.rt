@@ -2,7 +2,7 @@
 #![tactic(auto)]
 
 ghost use Rattle.std.specs.Prelude.{◌≡◌};
-ghost use Rattle.header.specs.Header.{noHeader, hasFilenames};
+ghost use Rattle.header.specs.Header.{no_header, has_filenames};
 
 use types::{McuLine, McuStorage};
 use version::FirmwareVersion;
@@ -47,7 +47,7 @@ pub struct HeaderAnswer {
 
 // ROM infos have filenames from 0.5.1, or where boot logging is on.
 pub fn filenames_enabled(fields: SdrrInfoFields) -> bool
-    ensures { result ≡ hasFilenames fields }
+    ensures { result ≡ has_filenames fields }
 {
     base::either(
         version::from_0_5_1(fields.version),
@@ -55,9 +55,9 @@ pub fn filenames_enabled(fields: SdrrInfoFields) -> bool
     )
 }
 
-#[tactic(auto, unfolding(crate::specs::Header::noHeader))]
+#[tactic(auto, unfolding(crate::specs::Header::no_header))]
 pub fn no_fields() -> SdrrInfoFields
-    ensures { result ≡ noHeader.fields }
+    ensures { result ≡ no_header.fields }
 {
     SdrrInfoFields {
         version: FirmwareVersion {

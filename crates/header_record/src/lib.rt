@@ -3,7 +3,7 @@
 
 ghost use Rattle.std.specs.Prelude.{◌≡◌, ◌≤◌, length};
 ghost use Rattle.prog.specs.Prog.{run};
-ghost use Rattle.header.specs.Header.{versionOf, headerFields, extraPointer, wholeOf, refusedHeader, headerOf, headerP};
+ghost use Rattle.header.specs.Header.{version_of, header_fields, extra_pointer, whole_of, refused_header, header_of, header_p};
 
 use header::{HeaderAnswer, SdrrInfoFields, SdrrInfoHeader};
 use version::FirmwareVersion;
@@ -11,7 +11,7 @@ use version::FirmwareVersion;
 const HEADER_SIZE: usize = 64;
 
 fn read_version(s: &[u8]) -> FirmwareVersion
-    ensures { result ≡ versionOf s.now }
+    ensures { result ≡ version_of s.now }
 {
     FirmwareVersion {
         major: le::u16_at(s, 4),
@@ -21,10 +21,10 @@ fn read_version(s: &[u8]) -> FirmwareVersion
     }
 }
 
-#[tactic(auto, unfolding(header::specs::Header::headerFields))]
+#[tactic(auto, unfolding(header::specs::Header::header_fields))]
 fn read_fields(s: &[u8]) -> SdrrInfoFields
     requires { 64 ≤ length s.now }
-    ensures { result ≡ headerFields s.now }
+    ensures { result ≡ header_fields s.now }
 {
     SdrrInfoFields {
         version: read_version(s),
@@ -46,7 +46,7 @@ fn read_fields(s: &[u8]) -> SdrrInfoFields
 
 // The extra pointer, which firmware below 0.4 does not have.
 fn read_extra_ptr(s: &[u8]) -> u32
-    ensures { result ≡ extraPointer s.now }
+    ensures { result ≡ extra_pointer s.now }
 {
     if version::below_0_4(read_version(s)) {
         return 4294967295;
@@ -54,10 +54,10 @@ fn read_extra_ptr(s: &[u8]) -> u32
     le::u32_at(s, 56)
 }
 
-#[tactic(auto, unfolding(header::specs::Header::wholeOf))]
+#[tactic(auto, unfolding(header::specs::Header::whole_of))]
 fn read_whole(s: &[u8]) -> SdrrInfoHeader
     requires { 64 ≤ length s.now }
-    ensures { result ≡ wholeOf s.now }
+    ensures { result ≡ whole_of s.now }
 {
     SdrrInfoHeader {
         fields: read_fields(s),
@@ -70,9 +70,9 @@ fn read_whole(s: &[u8]) -> SdrrInfoHeader
     }
 }
 
-#[tactic(auto, unfolding(header::specs::Header::noHeader))]
+#[tactic(auto, unfolding(header::specs::Header::no_header))]
 fn refuse(number: u8) -> HeaderAnswer
-    ensures { result ≡ refusedHeader number }
+    ensures { result ≡ refused_header number }
 {
     let header = SdrrInfoHeader {
         fields: header::no_fields(),
@@ -87,9 +87,9 @@ fn refuse(number: u8) -> HeaderAnswer
 }
 
 // The header at the front of data.
-#[tactic(auto, unfolding(header::specs::Header::headerOf))]
+#[tactic(auto, unfolding(header::specs::Header::header_of))]
 pub fn parse_and_validate_header(data: &[u8]) -> HeaderAnswer
-    ensures { result ≡ headerOf «data».now }
+    ensures { result ≡ header_of «data».now }
 {
     if data.len() < HEADER_SIZE {
         return refuse(2);
@@ -112,7 +112,7 @@ pub fn parse_and_validate_header(data: &[u8]) -> HeaderAnswer
 
 // The header at flash base plus info offset, given to `parse_and_validate_header` as the image from there onward.
 pub fn retrieve_header(image: &[u8], flash_base: u32, info_offset: u32) -> HeaderAnswer
-    ensures { result ≡ run (headerP flash_base info_offset) image.now }
+    ensures { result ≡ run (header_p flash_base info_offset) image.now }
 {
     let address = flash_base as u64 + info_offset as u64;
     if !window::can_read(image, flash_base, address, HEADER_SIZE) {

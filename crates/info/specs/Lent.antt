@@ -4,13 +4,13 @@ use Rattle.base.specs.Choice.{pick}
 use Rattle.types.specs.declared.McuLine.{McuLine}
 use Rattle.types.specs.declared.SdrrCsSet.{SdrrCsSet}
 use Rattle.board.specs.declared.BoardPins.{BoardPins}
-pub use Rattle.rows.specs.LentRows.{hasSetRow, hasRomRow, setWord, dataPointer, sizeOf, firstRom, romCount, serveOf, typeWord, badRomRow, setNumber}
+pub use Rattle.rows.specs.LentRows.{has_set_row, has_rom_row, set_word, data_pointer, size_of, first_rom, rom_count, serve_of, type_word, bad_rom_row, set_number}
 use Rattle.board.specs.declared.Board.{Board}
 use Rattle.governing.specs.declared.GoverningSet.{GoverningSet}
-use Rattle.governing.specs.Governing.{governingSet0, governingOwn}
+use Rattle.governing.specs.Governing.{governing_set0, governing_own}
 use Rattle.mangle.specs.declared.Mangled.{Mangled}
 use Rattle.demangle.specs.declared.Demangled.{Demangled}
-use Rattle.mangle.specs.Mangle.{mangleCore}
+use Rattle.mangle.specs.Mangle.{mangle_core}
 use Rattle.demangle.specs.Demangle.{demangle}
 
 -- ---- mangling and demangling on a board
@@ -19,23 +19,23 @@ abbrev pub unmangled : ℕ → Mangled
 unmangled n = record { number = n; value = 0 }
 
 -- mangling by what governs: 72 to 78
-unfoldable pub mangledBy : GoverningSet → BoardPins → ℕ → SdrrCsSet → Mangled
-mangledBy g pins address levels =
-    pick (not (eqb g.number 0)) (unmangled g.number) (mangleCore pins g.rom_count g.rom_type address levels)
+unfoldable pub mangled_by : GoverningSet → BoardPins → ℕ → SdrrCsSet → Mangled
+mangled_by g pins address levels =
+    pick (not (eqb g.number 0)) (unmangled g.number) (mangle_core pins g.rom_count g.rom_type address levels)
 
-unfoldable pub mangleAddress : BoardPins → (served : ℕ) → (sets roms : List ℕ) → ℕ → SdrrCsSet → Mangled
-mangleAddress pins served sets roms address levels = mangledBy (governingSet0 pins.number served sets roms) pins address levels
+unfoldable pub mangle_address : BoardPins → (served : ℕ) → (sets roms : List ℕ) → ℕ → SdrrCsSet → Mangled
+mangle_address pins served sets roms address levels = mangled_by (governing_set0 pins.number served sets roms) pins address levels
 
 -- Wish 1: by the named set's own ROMs
-unfoldable pub mangleOwn : BoardPins → (served : ℕ) → (sets roms : List ℕ) → (set : ℕ) → ℕ → SdrrCsSet → Mangled
-mangleOwn pins served sets roms set address levels = mangledBy (governingOwn pins.number served sets roms set) pins address levels
+unfoldable pub mangle_own : BoardPins → (served : ℕ) → (sets roms : List ℕ) → (set : ℕ) → ℕ → SdrrCsSet → Mangled
+mangle_own pins served sets roms set address levels = mangled_by (governing_own pins.number served sets roms set) pins address levels
 
 -- 70: no pins. Then 79.
-abbrev pub demangledBy : (number : ℕ) → (dataPins : List ℕ) → ℕ → Demangled
-demangledBy number dataPins byte = pick (not (eqb number 0)) (record { number = 70; value = 0 }) (demangle dataPins byte)
+abbrev pub demangled_by : (number : ℕ) → (data_pins : List ℕ) → ℕ → Demangled
+demangled_by number data_pins byte = pick (not (eqb number 0)) (record { number = 70; value = 0 }) (demangle data_pins byte)
 
-unfoldable pub demangleByte : BoardPins → ℕ → Demangled
-demangleByte pins byte = demangledBy pins.number pins.«data» byte
+unfoldable pub demangle_byte : BoardPins → ℕ → Demangled
+demangle_byte pins byte = demangled_by pins.number pins.«data» byte
 
 -- ---- all that later calls look at
 
@@ -45,9 +45,9 @@ pub record Lent : Type 0 where
   pub line : McuLine
   pub pins : BoardPins
   pub served : ℕ
-  pub setWords : List ℕ
-  pub romWords : List ℕ
+  pub set_words : List ℕ
+  pub rom_words : List ℕ
 
 -- on a board, with its rows
-abbrev pub lentBy : Board → (sets roms : List ℕ) → Lent
-lentBy b sets roms = record { line = b.line; pins = b.pins; served = b.served; setWords = sets; romWords = roms }
+abbrev pub lent_by : Board → (sets roms : List ℕ) → Lent
+lent_by b sets roms = record { line = b.line; pins = b.pins; served = b.served; set_words = sets; rom_words = roms }

@@ -1,28 +1,28 @@
 -- Document 01, "ROM data" and the byte reads; document 02, wish 1.
 use Rattle.std.specs.Prelude.{ℕ, ◌+◌, Bool, true, false, not, List, [], ◌∷◌, ltb, eqb, get_or}
 use Rattle.base.specs.Choice.{pick}
-use Rattle.window.specs.Window.{baseAfter, beyondWindow}
-use Rattle.prog.specs.Prog.{Prog, done, mapP, run}
+use Rattle.window.specs.Window.{base_after, beyond_window}
+use Rattle.prog.specs.Prog.{Prog, done, map_p, run}
 use Rattle.types.specs.declared.SdrrCsSet.{SdrrCsSet}
 use Rattle.mangle.specs.declared.Mangled.{Mangled}
 use Rattle.info.specs.declared.SdrrAddress.{SdrrAddress}
-pub use Rattle.set_data.specs.Data.{Bytes, noBytes}
-unfoldable pub use Rattle.set_data.specs.Data.{dataP}
-use Rattle.info.specs.Lent.{Lent, mangleAddress, mangleOwn, demangleByte}
+pub use Rattle.set_data.specs.Data.{Bytes, no_bytes}
+unfoldable pub use Rattle.set_data.specs.Data.{data_p}
+use Rattle.info.specs.Lent.{Lent, mangle_address, mangle_own, demangle_byte}
 
 -- ---- behind the bytes that ROM data gives (set_data/Data): the count, demangling
 
 -- 82: the served count would pass 4,294,967,295
-unfoldable pub countNumber : ℕ → ℕ → ℕ
-countNumber count n = pick (ltb 4294967295 (count + n)) 82 0
+unfoldable pub count_number : ℕ → ℕ → ℕ
+count_number count n = pick (ltb 4294967295 (count + n)) 82 0
 
 -- 70, 79; a raw byte skips demangling
-unfoldable pub shownByte : Lent → Bool → Bytes → Bytes
-shownByte l false b = b
-shownByte l true b =
-    pick (eqb (demangleByte l.pins (get_or b.bytes 0 0)).number 0)
-    (record { number = 0; bytes = (demangleByte l.pins (get_or b.bytes 0 0)).value ∷ [] })
-    (noBytes (demangleByte l.pins (get_or b.bytes 0 0)).number)
+unfoldable pub shown_byte : Lent → Bool → Bytes → Bytes
+shown_byte l false b = b
+shown_byte l true b =
+    pick (eqb (demangle_byte l.pins (get_or b.bytes 0 0)).number 0)
+    (record { number = 0; bytes = (demangle_byte l.pins (get_or b.bytes 0 0)).value ∷ [] })
+    (no_bytes (demangle_byte l.pins (get_or b.bytes 0 0)).number)
 
 -- ---- the reads
 
@@ -33,41 +33,41 @@ pub data RomRead : Type 0 where
   own : (set address : ℕ) → SdrrCsSet → RomRead
 
 -- the length is the lent buffer's, 1 for a byte read
-abbrev pub lengthOf : RomRead → ℕ
-lengthOf (range set offset n) = n
-lengthOf (byte set a demangled) = 1
-lengthOf (own set address levels) = 1
+abbrev pub length_of : RomRead → ℕ
+length_of (range set offset n) = n
+length_of (byte set a demangled) = 1
+length_of (own set address levels) = 1
 
 -- a logical address runs mangling first; a raw address skips it
 abbrev pub physical : Lent → SdrrAddress → Mangled
 physical l (SdrrAddress.Raw offset) = record { number = 0; value = offset }
-physical l (SdrrAddress.Logical address levels) = mangleAddress l.pins l.served l.setWords l.romWords address levels
+physical l (SdrrAddress.Logical address levels) = mangle_address l.pins l.served l.set_words l.rom_words address levels
 
 -- in a read by the set's own ROMs the named set governs
-abbrev pub ownPhysical : Lent → (set address : ℕ) → SdrrCsSet → Mangled
-ownPhysical l set address levels = mangleOwn l.pins l.served l.setWords l.romWords set address levels
+abbrev pub own_physical : Lent → (set address : ℕ) → SdrrCsSet → Mangled
+own_physical l set address levels = mangle_own l.pins l.served l.set_words l.rom_words set address levels
 
-abbrev pub byteP : ℕ → Lent → ℕ → Mangled → Prog Bytes
-byteP base l set m = pick (eqb m.number 0) (dataP base l.served l.setWords set m.value 1) (done (noBytes m.number))
+abbrev pub byte_p : ℕ → Lent → ℕ → Mangled → Prog Bytes
+byte_p base l set m = pick (eqb m.number 0) (data_p base l.served l.set_words set m.value 1) (done (no_bytes m.number))
 
 -- the bytes from the image: mangling where the address is logical, then ROM data
-unfoldable pub storedP : ℕ → Lent → RomRead → Prog Bytes
-storedP base l (range set offset n) = dataP base l.served l.setWords set offset n
-storedP base l (byte set a demangled) = byteP base l set (physical l a)
-storedP base l (own set address levels) = byteP base l set (ownPhysical l set address levels)
+unfoldable pub stored_p : ℕ → Lent → RomRead → Prog Bytes
+stored_p base l (range set offset n) = data_p base l.served l.set_words set offset n
+stored_p base l (byte set a demangled) = byte_p base l set (physical l a)
+stored_p base l (own set address levels) = byte_p base l set (own_physical l set address levels)
 
 -- then 82, then demangling
-abbrev pub shownOf : Lent → RomRead → Bytes → Bytes
-shownOf l (range set offset n) b = b
-shownOf l (byte set a demangled) b = shownByte l demangled b
-shownOf l (own set address levels) b = shownByte l true b
+abbrev pub shown_of : Lent → RomRead → Bytes → Bytes
+shown_of l (range set offset n) b = b
+shown_of l (byte set a demangled) b = shown_byte l demangled b
+shown_of l (own set address levels) b = shown_byte l true b
 
 unfoldable pub finished : Lent → ℕ → RomRead → Bytes → Bytes
 finished l count r b =
-    pick (not (eqb b.number 0)) b (pick (not (eqb (countNumber count (lengthOf r)) 0)) (noBytes (countNumber count (lengthOf r))) (shownOf l r b))
+    pick (not (eqb b.number 0)) b (pick (not (eqb (count_number count (length_of r)) 0)) (no_bytes (count_number count (length_of r))) (shown_of l r b))
 
-unfoldable pub readP : ℕ → Lent → ℕ → RomRead → Prog Bytes
-readP base l count r = mapP (finished l count r) (storedP base l r)
+unfoldable pub read_p : ℕ → Lent → ℕ → RomRead → Prog Bytes
+read_p base l count r = map_p (finished l count r) (stored_p base l r)
 
 -- ---- the call
 
@@ -77,22 +77,22 @@ pub record Reply : Type 0 where
   pub bytes : List ℕ
   pub count : ℕ
 
-abbrev pub refusedReply : ℕ → ℕ → Reply
-refusedReply n count = record { number = n; bytes = []; count = count }
+abbrev pub refused_reply : ℕ → ℕ → Reply
+refused_reply n count = record { number = n; bytes = []; count = count }
 
-abbrev pub readReply : ℕ → RomRead → Bytes → Reply
-readReply count r b = record { number = b.number; bytes = b.bytes; count = pick (eqb b.number 0) (count + lengthOf r) count }
+abbrev pub read_reply : ℕ → RomRead → Bytes → Reply
+read_reply count r b = record { number = b.number; bytes = b.bytes; count = pick (eqb b.number 0) (count + length_of r) count }
 
 -- 1: the window check, before anything else
-unfoldable pub romRead : (flashBase cs0Base : ℕ) → Lent → ℕ → RomRead → List ℕ → Reply
-romRead flashBase cs0Base l count r x =
-    pick (beyondWindow flashBase cs0Base x) (refusedReply 1 count)
-    (readReply count r (run (readP (baseAfter flashBase cs0Base l.line) l count r) x))
+unfoldable pub rom_read : (flash_base cs0_base : ℕ) → Lent → ℕ → RomRead → List ℕ → Reply
+rom_read flash_base cs0_base l count r x =
+    pick (beyond_window flash_base cs0_base x) (refused_reply 1 count)
+    (read_reply count r (run (read_p (base_after flash_base cs0_base l.line) l count r) x))
 
 -- what the lent buffer holds afterwards: a refusal changes no byte
-abbrev pub bufferLeft : Reply → List ℕ → List ℕ
-bufferLeft r lent = pick (eqb r.number 0) r.bytes lent
+abbrev pub buffer_left : Reply → List ℕ → List ℕ
+buffer_left r lent = pick (eqb r.number 0) r.bytes lent
 
 -- the length of a read that was accepted, 0 of one that was refused
-abbrev pub acceptedLength : (number : ℕ) → RomRead → ℕ
-acceptedLength number r = pick (eqb number 0) (lengthOf r) 0
+abbrev pub accepted_length : (number : ℕ) → RomRead → ℕ
+accepted_length number r = pick (eqb number 0) (length_of r) 0

@@ -2,7 +2,7 @@
 #![tactic(auto)]
 
 ghost use Rattle.std.specs.Prelude.{◌≡◌};
-ghost use Rattle.info.specs.Lent.{unmangled, mangledBy, mangleAddress, mangleOwn, demangledBy, demangleByte};
+ghost use Rattle.info.specs.Lent.{unmangled, mangled_by, mangle_address, mangle_own, demangled_by, demangle_byte};
 
 use board::BoardPins;
 use demangle::Demangled;
@@ -23,9 +23,9 @@ fn unmangled_by(number: u8) -> Mangled
     Mangled { number, value: 0 }
 }
 
-#[tactic(auto, unfolding(crate::specs::Lent::mangledBy))]
+#[tactic(auto, unfolding(crate::specs::Lent::mangled_by))]
 pub fn mangle_by(set: GoverningSet, pins: BoardPins, address: u32, cs_set: SdrrCsSet) -> Mangled
-    ensures { result ≡ mangledBy «set» pins address cs_set }
+    ensures { result ≡ mangled_by «set» pins address cs_set }
 {
     if set.number != 0 {
         return unmangled_by(set.number);
@@ -35,7 +35,7 @@ pub fn mangle_by(set: GoverningSet, pins: BoardPins, address: u32, cs_set: SdrrC
     mangle::mangle_core(pins, rom_count, rom_type, address, cs_set)
 }
 
-#[tactic(auto, unfolding(crate::specs::Lent::mangleAddress))]
+#[tactic(auto, unfolding(crate::specs::Lent::mangle_address))]
 pub fn mangle_address(
     pins: BoardPins,
     served: u32,
@@ -44,14 +44,14 @@ pub fn mangle_address(
     address: u32,
     cs_set: SdrrCsSet,
 ) -> Mangled
-    ensures { result ≡ mangleAddress pins served set_rows.now rom_rows.now address cs_set }
+    ensures { result ≡ mangle_address pins served set_rows.now rom_rows.now address cs_set }
 {
     let g = governing::governing_set_0(pins.number, served, set_rows, rom_rows);
     mangle_by(g, pins, address, cs_set)
 }
 
 // By the named set's own ROMs.
-#[tactic(auto, unfolding(crate::specs::Lent::mangleOwn))]
+#[tactic(auto, unfolding(crate::specs::Lent::mangle_own))]
 pub fn mangle_own(
     pins: BoardPins,
     served: u32,
@@ -61,7 +61,7 @@ pub fn mangle_own(
     address: u32,
     cs_set: SdrrCsSet,
 ) -> Mangled
-    ensures { result ≡ mangleOwn pins served set_rows.now rom_rows.now «set» address cs_set }
+    ensures { result ≡ mangle_own pins served set_rows.now rom_rows.now «set» address cs_set }
 {
     let g = governing::governing_own(pins.number, served, set_rows, rom_rows, set);
     mangle_by(g, pins, address, cs_set)
@@ -69,7 +69,7 @@ pub fn mangle_own(
 
 // By the number of the pins item and its data pins.
 pub fn demangle_by(pins_number: u8, data: [u8; 8], byte: u8) -> Demangled
-    ensures { result ≡ demangledBy pins_number «data» byte }
+    ensures { result ≡ demangled_by pins_number «data» byte }
 {
     if pins_number != 0 {
         return Demangled {
@@ -80,9 +80,9 @@ pub fn demangle_by(pins_number: u8, data: [u8; 8], byte: u8) -> Demangled
     demangle::demangle_core(data, byte)
 }
 
-#[tactic(auto, unfolding(crate::specs::Lent::demangleByte))]
+#[tactic(auto, unfolding(crate::specs::Lent::demangle_byte))]
 pub fn demangle_byte(pins: BoardPins, byte: u8) -> Demangled
-    ensures { result ≡ demangleByte pins byte }
+    ensures { result ≡ demangle_byte pins byte }
 {
     let data = pins.data;
     demangle_by(pins.number, data, byte)

@@ -9,14 +9,14 @@ use lib.Bits.{bit_or}
 use lib.ListN.{length, get_or, drop, drop_of_length-le}
 use lib.Seq.{drop-cons}
 use Rattle.base.specs.Choice.{pick}
-use Rattle.input_word.specs.Laws.{raisedBy}
+use Rattle.input_word.specs.Laws.{raised_by}
 
 -- one more level
-pub raised-on : (ms : List ℕ) (ls : List Bool) (w i : ℕ) → i < length ms → i < length ls
-    → raisedBy (drop i ms) (drop i ls) w ≡ raisedBy (drop (i + 1) ms) (drop (i + 1) ls) (bit_or w (pick (get_or ls i false) (get_or ms i 0) 0))
-unfolding raisedBy
-raised-on ms ls w i h k = rw (add-one i, drop-cons ms i 0, drop-cons ls i false)
+pub raised_on : (ms : List ℕ) (ls : List Bool) (w i : ℕ) → i < length ms → i < length ls
+    → raised_by (drop i ms) (drop i ls) w ≡ raised_by (drop (i + 1) ms) (drop (i + 1) ls) (bit_or w (pick (get_or ls i false) (get_or ms i 0) 0))
+unfolding raised_by
+raised_on ms ls w i h k = rw (add-one i, drop-cons ms i 0, drop-cons ls i false)
 
-pub raised-end : (ms : List ℕ) (ls : List Bool) (w i : ℕ) → length ms ≤ i → raisedBy (drop i ms) (drop i ls) w ≡ w
-unfolding raisedBy
-raised-end ms ls w i h = rw (drop_of_length-le ms h)
+pub raised_end : (ms : List ℕ) (ls : List Bool) (w i : ℕ) → length ms ≤ i → raised_by (drop i ms) (drop i ls) w ≡ w
+unfolding raised_by
+raised_end ms ls w i h = rw (drop_of_length-le ms h)

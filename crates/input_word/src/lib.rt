@@ -4,17 +4,17 @@
 ghost use Rattle.std.specs.Prelude.{◌≡◌, [], ◌∷◌, map};
 ghost use Rattle.std.specs.Int.Bits.{bit_or};
 ghost use Rattle.base.specs.Choice.{pick};
-ghost use Rattle.types.specs.Types.{isHigh};
+ghost use Rattle.types.specs.Types.{is_high};
 ghost use Rattle.demangle.specs.Bits.{none};
 ghost use Rattle.rom_rules.specs.Rules.{drives};
-ghost use Rattle.input_word.specs.Input.{levels, bitOf, inputWord};
-ghost use Rattle.input_word.specs.Laws.{raisedBy};
+ghost use Rattle.input_word.specs.Input.{levels, bit_of, input_word};
+ghost use Rattle.input_word.specs.Laws.{raised_by};
 
 use types::{Level, SdrrCsSet, SdrrRomType};
 
 // X1 and X2 raise input bits 14 and 15 with several ROMs.
 fn words(cs1: u32, cs2: u32, cs3: u32, several: bool) -> [u32; 5]
-    ensures { result ≡ (cs1 ∷ cs2 ∷ cs3 ∷ bitOf (pick several 14 none) ∷ bitOf (pick several 15 none) ∷ []) }
+    ensures { result ≡ (cs1 ∷ cs2 ∷ cs3 ∷ bit_of (pick several 14 none) ∷ bit_of (pick several 15 none) ∷ []) }
 {
     if several {
         [cs1, cs2, cs3, 0x4000, 0x8000]
@@ -24,9 +24,9 @@ fn words(cs1: u32, cs2: u32, cs3: u32, several: bool) -> [u32; 5]
 }
 
 // The input bits that the levels CS1, CS2, CS3, X1, X2 raise, each as a mask: no shift is left for the caller.
-#[tactic(auto, unfolding(rom_rules::specs::Rules::drives, rom_rules::specs::Rules::rulesOf))]
+#[tactic(auto, unfolding(rom_rules::specs::Rules::drives, rom_rules::specs::Rules::rules_of))]
 fn drive_words(rom_type: SdrrRomType, rom_count: u32) -> [u32; 5]
-    ensures { result ≡ map bitOf (drives rom_type rom_count) }
+    ensures { result ≡ map bit_of (drives rom_type rom_count) }
 {
     let several = 2 <= rom_count;
     match rom_type {
@@ -40,9 +40,9 @@ fn drive_words(rom_type: SdrrRomType, rom_count: u32) -> [u32; 5]
 }
 
 // A level not given is low.
-#[tactic(auto, unfolding(types::specs::Types::isHigh))]
+#[tactic(auto, unfolding(types::specs::Types::is_high))]
 fn is_high(level: Level) -> bool
-    ensures { result ≡ isHigh level }
+    ensures { result ≡ is_high level }
 {
     match level {
         Level::High => true,
@@ -78,7 +78,7 @@ fn raise(word: u32, high: bool, mask: u32) -> u32
 
 // The word with the masks of the high levels raised.
 fn raised(masks: [u32; 5], levels: [bool; 5], word: u32) -> u32
-    ensures { result ≡ raisedBy masks levels word }
+    ensures { result ≡ raised_by masks levels word }
 {
     let mut w = word;
     let mut i: usize = 0;
@@ -91,7 +91,7 @@ fn raised(masks: [u32; 5], levels: [bool; 5], word: u32) -> u32
 
 // The address, with the input bits that high levels drive.
 pub fn input_word(rom_type: SdrrRomType, rom_count: u32, levels: [bool; 5], address: u32) -> u32
-    ensures { result ≡ inputWord rom_type rom_count levels address }
+    ensures { result ≡ input_word rom_type rom_count levels address }
 {
     raised(drive_words(rom_type, rom_count), levels, address)
 }

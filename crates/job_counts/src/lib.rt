@@ -2,7 +2,7 @@
 #![tactic(auto)]
 
 ghost use Rattle.std.specs.Prelude.{◌≡◌, ltb, set};
-ghost use Rattle.job_counts.specs.Counts.{countOf, noJobNumber};
+ghost use Rattle.job_counts.specs.Counts.{count_of, no_job_number};
 
 // How many jobs there are: 0 to 7.
 pub const JOBS: usize = 8;
@@ -15,7 +15,7 @@ pub fn is_job(job: u32) -> bool
 
 // 83, and 1 before it.
 pub fn no_job(image: &[u8], flash_base: u32, cs0_base: u32) -> u8
-    ensures { result ≡ noJobNumber flash_base cs0_base image.now }
+    ensures { result ≡ no_job_number flash_base cs0_base image.now }
 {
     if window::beyond_window(image, flash_base, cs0_base) {
         return 1;
@@ -25,7 +25,7 @@ pub fn no_job(image: &[u8], flash_base: u32, cs0_base: u32) -> u8
 
 // The job's own count; 0 where it is no job.
 pub fn count_of(job: u32, counts: &[u32; JOBS]) -> u32
-    ensures { result ≡ countOf job counts.now }
+    ensures { result ≡ count_of job counts.now }
 {
     if is_job(job) {
         return counts[job as usize];

@@ -3,12 +3,12 @@
 #![tactic(auto)]
 
 ghost use Rattle.std.specs.Prelude.{◌≡◌, true, false, [], length};
-ghost use Rattle.info.specs.Reads.{range, byte, own, bufferLeft};
-ghost use Rattle.data_reads.specs.Calls.{countedOf};
-ghost use Rattle.byte_reads.specs.Calls.{byteOf};
-ghost use Rattle.job_counts.specs.Counts.{noJobNumber};
-ghost use Rattle.jobs.specs.Jobs.{countsLeft};
-ghost use Rattle.job_reads.specs.Reads.{boardRead};
+ghost use Rattle.info.specs.Reads.{range, byte, own, buffer_left};
+ghost use Rattle.data_reads.specs.Calls.{counted_of};
+ghost use Rattle.byte_reads.specs.Calls.{byte_of};
+ghost use Rattle.job_counts.specs.Counts.{no_job_number};
+ghost use Rattle.jobs.specs.Jobs.{counts_left};
+ghost use Rattle.job_reads.specs.Reads.{board_read};
 
 use board::Board;
 use byte_reads::ByteRead;
@@ -28,9 +28,9 @@ pub fn read_rom_set_data(
     job: u32,
     counts: &mut [u32; JOBS],
 ) -> Counted
-    ensures reply { result ≡ countedOf (boardRead board set_rows.now [] job counts.old (range set offset (length buffer.old)) image.now) }
-    ensures buffer { buffer.new ≡ bufferLeft (boardRead board set_rows.now [] job counts.old (range set offset (length buffer.old)) image.now) buffer.old }
-    ensures counts { counts.new ≡ countsLeft job counts.old (boardRead board set_rows.now [] job counts.old (range set offset (length buffer.old)) image.now) }
+    ensures reply { result ≡ counted_of (board_read board set_rows.now [] job counts.old (range set offset (length buffer.old)) image.now) }
+    ensures buffer { buffer.new ≡ buffer_left (board_read board set_rows.now [] job counts.old (range set offset (length buffer.old)) image.now) buffer.old }
+    ensures counts { counts.new ≡ counts_left job counts.old (board_read board set_rows.now [] job counts.old (range set offset (length buffer.old)) image.now) }
 {
     if !job_counts::is_job(job) {
         let refused = job_counts::no_job(image, board.flash_base, board.cs0_base);
@@ -46,7 +46,7 @@ pub fn read_rom_set_data(
 }
 
 fn no_byte(image: &[u8], board: Board) -> ByteRead
-    ensures { result ≡ record { number = noJobNumber board.flash_base board.cs0_base image.now; byte = 0; count = 0 } }
+    ensures { result ≡ record { number = no_job_number board.flash_base board.cs0_base image.now; byte = 0; count = 0 } }
 {
     let number = job_counts::no_job(image, board.flash_base, board.cs0_base);
     ByteRead {
@@ -66,8 +66,8 @@ pub fn read_rom_byte_raw(
     job: u32,
     counts: &mut [u32; JOBS],
 ) -> ByteRead
-    ensures reply { result ≡ byteOf (boardRead board set_rows.now rom_rows.now job counts.old (byte set address false) image.now) }
-    ensures counts { counts.new ≡ countsLeft job counts.old (boardRead board set_rows.now rom_rows.now job counts.old (byte set address false) image.now) }
+    ensures reply { result ≡ byte_of (board_read board set_rows.now rom_rows.now job counts.old (byte set address false) image.now) }
+    ensures counts { counts.new ≡ counts_left job counts.old (board_read board set_rows.now rom_rows.now job counts.old (byte set address false) image.now) }
 {
     if !job_counts::is_job(job) {
         return no_byte(image, board);
@@ -88,8 +88,8 @@ pub fn read_rom_byte_demangled(
     job: u32,
     counts: &mut [u32; JOBS],
 ) -> ByteRead
-    ensures reply { result ≡ byteOf (boardRead board set_rows.now rom_rows.now job counts.old (byte set address true) image.now) }
-    ensures counts { counts.new ≡ countsLeft job counts.old (boardRead board set_rows.now rom_rows.now job counts.old (byte set address true) image.now) }
+    ensures reply { result ≡ byte_of (board_read board set_rows.now rom_rows.now job counts.old (byte set address true) image.now) }
+    ensures counts { counts.new ≡ counts_left job counts.old (board_read board set_rows.now rom_rows.now job counts.old (byte set address true) image.now) }
 {
     if !job_counts::is_job(job) {
         return no_byte(image, board);
@@ -113,8 +113,8 @@ pub fn read_rom_byte_own(
     job: u32,
     counts: &mut [u32; JOBS],
 ) -> ByteRead
-    ensures reply { result ≡ byteOf (boardRead board set_rows.now rom_rows.now job counts.old (own set address cs_set) image.now) }
-    ensures counts { counts.new ≡ countsLeft job counts.old (boardRead board set_rows.now rom_rows.now job counts.old (own set address cs_set) image.now) }
+    ensures reply { result ≡ byte_of (board_read board set_rows.now rom_rows.now job counts.old (own set address cs_set) image.now) }
+    ensures counts { counts.new ≡ counts_left job counts.old (board_read board set_rows.now rom_rows.now job counts.old (own set address cs_set) image.now) }
 {
     if !job_counts::is_job(job) {
         return no_byte(image, board);

@@ -3,9 +3,9 @@
 
 ghost use Rattle.std.specs.Prelude.{◌≡◌, length};
 ghost use Rattle.prog.specs.Prog.{run};
-ghost use Rattle.walk.specs.Walk.{infoSize, romsOf, walkP};
-ghost use Rattle.walk.specs.Code.Passes.{infoNumber, romNumber, romsNumber, tableNumber, pointedNumber, headerNumber, partNumber, oneSetNumber, setsNumber, setsAt};
-ghost use Rattle.judge_walk.specs.Code.{walked, judgedOf};
+ghost use Rattle.walk.specs.Walk.{info_size, roms_of, walk_p};
+ghost use Rattle.walk.specs.Code.Passes.{info_number, rom_number, roms_number, table_number, pointed_number, header_number, part_number, one_set_number, sets_number, sets_at};
+ghost use Rattle.judge_walk.specs.Code.{walked, judged_of};
 
 use header::SdrrInfoFields;
 
@@ -20,15 +20,15 @@ pub struct Walked {
 
 // With filenames a ROM info is 8 bytes, without 4.
 fn info_size(filenames: bool) -> usize
-    ensures { result ≡ infoSize filenames }
+    ensures { result ≡ info_size filenames }
 {
     if filenames { 8 } else { 4 }
 }
 
 // What a ROM info's own bytes say.
-#[tactic(auto, unfolding(walk::specs::Code::Passes::infoNumber))]
+#[tactic(auto, unfolding(walk::specs::Code::Passes::info_number))]
 fn judge_rom_info(s: &[u8]) -> u8
-    ensures { result ≡ infoNumber s.now }
+    ensures { result ≡ info_number s.now }
 {
     if 33 < le::u8_at(s, 0) {
         return 42;
@@ -40,9 +40,9 @@ fn judge_rom_info(s: &[u8]) -> u8
     0
 }
 
-#[tactic(auto, unfolding(walk::specs::Code::Passes::romNumber))]
+#[tactic(auto, unfolding(walk::specs::Code::Passes::rom_number))]
 fn judge_rom(image: &[u8], base: u32, filenames: bool, entry: u64) -> u8
-    ensures { result ≡ romNumber image.now base filenames entry }
+    ensures { result ≡ rom_number image.now base filenames entry }
 {
     if !window::can_read(image, base, entry, 4) {
         return 2;
@@ -57,7 +57,7 @@ fn judge_rom(image: &[u8], base: u32, filenames: bool, entry: u64) -> u8
 // So many ROMs, whose pointers stand in a table.
 #[tactic(auto, using(crate::proofs::Steps::roms_steps))]
 fn judge_roms(image: &[u8], base: u32, filenames: bool, table: u32, count: u8) -> u8
-    ensures { result ≡ romsNumber image.now base filenames table count }
+    ensures { result ≡ roms_number image.now base filenames table count }
 {
     let mut entry = table as u64;
     let mut left = count;
@@ -72,9 +72,9 @@ fn judge_roms(image: &[u8], base: u32, filenames: bool, table: u32, count: u8) -
     0
 }
 
-#[tactic(auto, unfolding(walk::specs::Code::Passes::tableNumber))]
+#[tactic(auto, unfolding(walk::specs::Code::Passes::table_number))]
 fn judge_rom_infos(image: &[u8], base: u32, filenames: bool, table: u32, count: u8) -> u8
-    ensures { result ≡ tableNumber image.now base filenames count table }
+    ensures { result ≡ table_number image.now base filenames count table }
 {
     if count == 0 {
         return 0;
@@ -88,9 +88,9 @@ fn judge_rom_infos(image: &[u8], base: u32, filenames: bool, table: u32, count: 
 // ---- ROM sets
 
 // What a set's config or overrides address must yield.
-#[tactic(auto, unfolding(walk::specs::Code::Passes::pointedNumber))]
+#[tactic(auto, unfolding(walk::specs::Code::Passes::pointed_number))]
 fn judge_pointed(image: &[u8], base: u32, address: u32) -> u8
-    ensures { result ≡ pointedNumber image.now base address }
+    ensures { result ≡ pointed_number image.now base address }
 {
     if address == 0 {
         return 0;
@@ -102,9 +102,9 @@ fn judge_pointed(image: &[u8], base: u32, address: u32) -> u8
 }
 
 // A set's own bytes, then its config and overrides.
-#[tactic(auto, unfolding(walk::specs::Code::Passes::headerNumber))]
+#[tactic(auto, unfolding(walk::specs::Code::Passes::header_number))]
 fn judge_set_header(image: &[u8], base: u32, s: &[u8]) -> u8
-    ensures { result ≡ headerNumber image.now base s.now }
+    ensures { result ≡ header_number image.now base s.now }
 {
     if 2 < le::u8_at(s, 13) {
         return 40;
@@ -120,9 +120,9 @@ fn judge_set_header(image: &[u8], base: u32, s: &[u8]) -> u8
 }
 
 // The set whose part of the image is s.
-#[tactic(auto, unfolding(walk::specs::Code::Passes::partNumber))]
+#[tactic(auto, unfolding(walk::specs::Code::Passes::part_number))]
 fn judge_part(image: &[u8], base: u32, filenames: bool, s: &[u8]) -> u8
-    ensures { result ≡ partNumber image.now base filenames s.now }
+    ensures { result ≡ part_number image.now base filenames s.now }
 {
     let n = judge_set_header(image, base, s);
     if n != 0 {
@@ -132,9 +132,9 @@ fn judge_part(image: &[u8], base: u32, filenames: bool, s: &[u8]) -> u8
 }
 
 // Always 64 bytes are read.
-#[tactic(auto, unfolding(walk::specs::Code::Passes::oneSetNumber))]
+#[tactic(auto, unfolding(walk::specs::Code::Passes::one_set_number))]
 fn judge_set(image: &[u8], base: u32, filenames: bool, address: u64) -> u8
-    ensures { result ≡ oneSetNumber image.now base filenames address }
+    ensures { result ≡ one_set_number image.now base filenames address }
 {
     if !window::can_read(image, base, address, 64) {
         return 2;
@@ -150,7 +150,7 @@ fn judge_set(image: &[u8], base: u32, filenames: bool, address: u64) -> u8
 // So many sets, one after the other; the first stands at a pointer. Before every set `total` is the sum of the earlier sets' counts, as the loop's
 // invariant says (`total_is_sum` in proofs/judge_sets/Invariants.antt).
 fn judge_sets(image: &[u8], base: u32, filenames: bool, long: bool, ptr: u32, count: u8) -> Walked
-    ensures { result ≡ walked (setsNumber image.now base filenames long ptr count) (length (romsOf (setsAt image.now base filenames long ptr count))) }
+    ensures { result ≡ walked (sets_number image.now base filenames long ptr count) (length (roms_of (sets_at image.now base filenames long ptr count))) }
 {
     let mut address = ptr as u64;
     let mut total: u32 = 0;
@@ -187,7 +187,7 @@ pub fn judge_rom_sets(
     count: u8,
     ptr: u32,
 ) -> Walked
-    ensures { result ≡ judgedOf (run (walkP base fields count ptr) image.now) }
+    ensures { result ≡ judged_of (run (walk_p base fields count ptr) image.now) }
 {
     if count == 0 {
         return Walked {

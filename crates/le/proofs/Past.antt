@@ -8,17 +8,17 @@ use mathlib.Core.List.{List}
 use lib.ListN.{length, take, drop, get_or-eq_default}
 use lib.Seq.{get_or-drop}
 use Rattle.base.specs.Laws.{onward}
-use Rattle.le.specs.Le.{u8At, u16At, u32At}
+use Rattle.le.specs.Le.{u8_at, u16_at, u32_at}
 
-pub u8-past : (s : List ℕ) (at : ℕ) → length s ≤ at → u8At s at ≡ 0
-u8-past s at h = get_or-eq_default s 0 h
+pub u8_past : (s : List ℕ) (at : ℕ) → length s ≤ at → u8_at s at ≡ 0
+u8_past s at h = get_or-eq_default s 0 h
 
-pub u16-past : (s : List ℕ) (at : ℕ) → length s ≤ at → u16At s at ≡ 0
-u16-past s at h = rw (u8-past s at h, u8-past s (at + 1) (omega arith))
+pub u16_past : (s : List ℕ) (at : ℕ) → length s ≤ at → u16_at s at ≡ 0
+u16_past s at h = rw (u8_past s at h, u8_past s (at + 1) (omega arith))
 
-pub u32-past : (s : List ℕ) (at : ℕ) → length s ≤ at → u32At s at ≡ 0
-u32-past s at h =
-    rw (u8-past s at h, u8-past s (at + 1) (omega arith), u8-past s (at + 2) (omega arith), u8-past s (at + 3) (omega arith))
+pub u32_past : (s : List ℕ) (at : ℕ) → length s ≤ at → u32_at s at ≡ 0
+u32_past s at h =
+    rw (u8_past s at h, u8_past s (at + 1) (omega arith), u8_past s (at + 2) (omega arith), u8_past s (at + 3) (omega arith))
 
-pub u32-onward : (s : List ℕ) (at : ℕ) → u32At (take (length s - at) (drop at s)) 0 ≡ u32At s at
-u32-onward s at = rw (onward at s) (simp (get_or-drop, add-zero))
+pub u32_onward : (s : List ℕ) (at : ℕ) → u32_at (take (length s - at) (drop at s)) 0 ≡ u32_at s at
+u32_onward s at = rw (onward at s) (simp (get_or-drop, add-zero))

@@ -2,7 +2,7 @@
 #![tactic(auto)]
 
 ghost use Rattle.std.specs.Prelude.{◌≡◌, ◌+◌, ◌*◌};
-ghost use Rattle.le.specs.Le.{u8At, u16At, u32At, flagAt};
+ghost use Rattle.le.specs.Le.{u8_at, u16_at, u32_at, flag_at};
 
 fn join16(a: u8, b: u8) -> u16
     ensures { result ≡ a + b * 256 }
@@ -17,7 +17,7 @@ fn join32(a: u8, b: u8, c: u8, d: u8) -> u32
 }
 
 pub fn u8_at(s: &[u8], at: usize) -> u8
-    ensures { result ≡ u8At s.now at }
+    ensures { result ≡ u8_at s.now at }
 {
     if s.len() <= at {
         return 0;
@@ -27,7 +27,7 @@ pub fn u8_at(s: &[u8], at: usize) -> u8
 
 // The first test also keeps at + 1 from passing the largest usize.
 pub fn u16_at(s: &[u8], at: usize) -> u16
-    ensures { result ≡ u16At s.now at }
+    ensures { result ≡ u16_at s.now at }
 {
     if s.len() <= at {
         return 0;
@@ -37,7 +37,7 @@ pub fn u16_at(s: &[u8], at: usize) -> u16
 
 // The part from at onward has its four bytes at 0 to 3, whatever at is.
 pub fn u32_at(s: &[u8], at: usize) -> u32
-    ensures { result ≡ u32At s.now at }
+    ensures { result ≡ u32_at s.now at }
 {
     if s.len() <= at {
         return 0;
@@ -47,7 +47,7 @@ pub fn u32_at(s: &[u8], at: usize) -> u32
 }
 
 pub fn flag_at(s: &[u8], at: usize) -> bool
-    ensures { result ≡ flagAt s.now at }
+    ensures { result ≡ flag_at s.now at }
 {
     u8_at(s, at) != 0
 }

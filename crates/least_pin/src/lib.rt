@@ -2,8 +2,8 @@
 #![tactic(auto)]
 
 ghost use Rattle.std.specs.Prelude.{◌≡◌};
-ghost use Rattle.least_pin.specs.LeastPin.{leastOf, leastPin};
-ghost use Rattle.least_pin.specs.Laws.{lesser, leastOfFour};
+ghost use Rattle.least_pin.specs.LeastPin.{least_of, least_pin};
+ghost use Rattle.least_pin.specs.Laws.{lesser, least_of_four};
 
 use board::BoardPins;
 
@@ -15,14 +15,14 @@ fn lesser(a: u8, b: u8) -> u8
 }
 
 fn least_of_four(a: u8, b: u8, c: u8, d: u8) -> u8
-    ensures { result ≡ leastOfFour a b c d }
+    ensures { result ≡ least_of_four a b c d }
 {
     lesser(lesser(a, b), lesser(c, d))
 }
 
 // The pins are compared in pairs: in a chain each waits for the one before.
 fn least_address(a: [u8; 16]) -> u8
-    ensures { result ≡ leastOf a 255 }
+    ensures { result ≡ least_of a 255 }
 {
     let m0 = least_of_four(a[0], a[1], a[2], a[3]);
     let m1 = least_of_four(a[4], a[5], a[6], a[7]);
@@ -32,9 +32,9 @@ fn least_address(a: [u8; 16]) -> u8
 }
 
 // Base-zero goes by the record's own byte and not by the type.
-#[tactic(auto, unfolding(crate::specs::LeastPin::leastPin, crate::specs::LeastPin::leastOf))]
+#[tactic(auto, unfolding(crate::specs::LeastPin::least_pin, crate::specs::LeastPin::least_of))]
 pub fn least_pin(pins: BoardPins) -> u8
-    ensures { result ≡ leastPin pins }
+    ensures { result ≡ least_pin pins }
 {
     let addr = pins.addr;
     let m = least_address(addr);

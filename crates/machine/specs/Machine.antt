@@ -9,9 +9,9 @@ pub record Machine (C S R : Type 0) : Type 0 where
 
 module _ {C S R : Type 0} (m : Machine C S R) where
   -- the state after a history: each call finds the one that the last has left
-  unfoldable pub stateAfter : S → List C → S
-  stateAfter s [] = s
-  stateAfter s (c ∷ cs) = stateAfter (m.next c s) cs
+  unfoldable pub state_after : S → List C → S
+  state_after s [] = s
+  state_after s (c ∷ cs) = state_after (m.next c s) cs
 
   -- the replies of a history, one to each call
   unfoldable pub replies : S → List C → List R
@@ -26,12 +26,12 @@ module _ {C S R : Type 0} (m : Machine C S R) where
 -- ---- some of a history's calls
 
 -- they themselves, in their order
-unfoldable pub callsOf : {C : Type 0} → (C → Bool) → List C → List C
-callsOf own [] = []
-callsOf own (c ∷ cs) = pick (own c) (c ∷ callsOf own cs) (callsOf own cs)
+unfoldable pub calls_of : {C : Type 0} → (C → Bool) → List C → List C
+calls_of own [] = []
+calls_of own (c ∷ cs) = pick (own c) (c ∷ calls_of own cs) (calls_of own cs)
 
 -- of the replies to all calls those to them
-unfoldable pub repliesOf : {C R : Type 0} → (C → Bool) → List C → List R → List R
-repliesOf own [] rs = []
-repliesOf own (c ∷ cs) [] = []
-repliesOf own (c ∷ cs) (r ∷ rs) = pick (own c) (r ∷ repliesOf own cs rs) (repliesOf own cs rs)
+unfoldable pub replies_of : {C R : Type 0} → (C → Bool) → List C → List R → List R
+replies_of own [] rs = []
+replies_of own (c ∷ cs) [] = []
+replies_of own (c ∷ cs) (r ∷ rs) = pick (own c) (r ∷ replies_of own cs rs) (replies_of own cs rs)

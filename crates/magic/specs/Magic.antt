@@ -2,7 +2,7 @@
 use Rattle.std.specs.Prelude.{ℕ, Bool, true, false, ◌&&◌, List, [], ◌∷◌, eqb}
 
 -- s starts with the bytes m
-unfoldable pub startsWith : List ℕ → List ℕ → Bool
-startsWith s [] = true
-startsWith [] (b ∷ m) = false
-startsWith (a ∷ s) (b ∷ m) = eqb a b && startsWith s m
+unfoldable pub starts_with : List ℕ → List ℕ → Bool
+starts_with s [] = true
+starts_with [] (b ∷ m) = false
+starts_with (a ∷ s) (b ∷ m) = eqb a b && starts_with s m

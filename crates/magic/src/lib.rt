@@ -2,11 +2,11 @@
 #![tactic(auto)]
 
 ghost use Rattle.std.specs.Prelude.{◌≡◌};
-ghost use Rattle.magic.specs.Magic.{startsWith};
+ghost use Rattle.magic.specs.Magic.{starts_with};
 
 // Whether s starts with the bytes of m.
 pub fn starts_with(s: &[u8], m: &[u8]) -> bool
-    ensures { result ≡ startsWith s.now m.now }
+    ensures { result ≡ starts_with s.now m.now }
 {
     if s.len() < m.len() {
         return false;

@@ -7,36 +7,36 @@ use mathlib.Core.List.{List, map}
 use mathlib.Core.Bool.{false, ◌&&◌, ◌||◌}
 use lib.ListN.{length, get_or, drop, drop_of_length-le}
 use lib.Seq.{drop-cons}
-use Rattle.demangle.specs.Bits.{isBit}
-use Rattle.demangle.specs.Laws.{taken-lt}
-use Rattle.pin_words.specs.Laws.{on-lt}
-use Rattle.mangle.specs.Laws.Words.{x-lt, control-lt}
-use Rattle.mangle.specs.PinMap.{off, controlOff}
-use Rattle.mangle.specs.Code.{onControl, onControls}
+use Rattle.demangle.specs.Bits.{is_bit}
+use Rattle.demangle.specs.Laws.{taken_lt}
+use Rattle.pin_words.specs.Laws.{on_lt}
+use Rattle.mangle.specs.Laws.Words.{x_lt, control_lt}
+use Rattle.mangle.specs.PinMap.{off, control_off}
+use Rattle.mangle.specs.Code.{on_control, on_controls}
 
 -- one more control pin
-pub off-on : (f : ℕ → ℕ) (ps bs : List ℕ) (i : ℕ) → i < length ps → i < length bs
-    → controlOff (map f (drop i ps)) (drop i bs)
-    ≡ ((isBit (get_or bs i 0) && off (f (get_or ps i 0))) || controlOff (map f (drop (i + 1) ps)) (drop (i + 1) bs))
-unfolding controlOff
-off-on f ps bs i h k = rw (add-one i, drop-cons ps i 0, drop-cons bs i 0)
+pub off_on : (f : ℕ → ℕ) (ps bs : List ℕ) (i : ℕ) → i < length ps → i < length bs
+    → control_off (map f (drop i ps)) (drop i bs)
+    ≡ ((is_bit (get_or bs i 0) && off (f (get_or ps i 0))) || control_off (map f (drop (i + 1) ps)) (drop (i + 1) bs))
+unfolding control_off
+off_on f ps bs i h k = rw (add-one i, drop-cons ps i 0, drop-cons bs i 0)
 
-pub off-end : (f : ℕ → ℕ) (ps bs : List ℕ) (i : ℕ) → length ps ≤ i → controlOff (map f (drop i ps)) (drop i bs) ≡ false
-unfolding controlOff
-off-end f ps bs i h = rw (drop_of_length-le ps h)
+pub off_end : (f : ℕ → ℕ) (ps bs : List ℕ) (i : ℕ) → length ps ≤ i → control_off (map f (drop i ps)) (drop i bs) ≡ false
+unfolding control_off
+off_end f ps bs i h = rw (drop_of_length-le ps h)
 
-pub control-on : (f : ℕ → ℕ) (ps bs : List ℕ) (i w v : ℕ) → i < length ps → i < length bs
-    → onControls (map f (drop i ps)) (drop i bs) w v
-    ≡ onControls (map f (drop (i + 1) ps)) (drop (i + 1) bs) w (onControl v (f (get_or ps i 0)) (get_or bs i 0) w)
-unfolding onControls
-control-on f ps bs i w v h k = rw (add-one i, drop-cons ps i 0, drop-cons bs i 0)
+pub control_on : (f : ℕ → ℕ) (ps bs : List ℕ) (i w v : ℕ) → i < length ps → i < length bs
+    → on_controls (map f (drop i ps)) (drop i bs) w v
+    ≡ on_controls (map f (drop (i + 1) ps)) (drop (i + 1) bs) w (on_control v (f (get_or ps i 0)) (get_or bs i 0) w)
+unfolding on_controls
+control_on f ps bs i w v h k = rw (add-one i, drop-cons ps i 0, drop-cons bs i 0)
 
-pub control-end : (f : ℕ → ℕ) (ps bs : List ℕ) (i w v : ℕ) → length ps ≤ i → onControls (map f (drop i ps)) (drop i bs) w v ≡ v
-unfolding onControls
-control-end f ps bs i w v h = rw (drop_of_length-le ps h)
+pub control_end : (f : ℕ → ℕ) (ps bs : List ℕ) (i w v : ℕ) → length ps ≤ i → on_controls (map f (drop i ps)) (drop i bs) w v ≡ v
+unfolding on_controls
+control_end f ps bs i w v h = rw (drop_of_length-le ps h)
 
 -- what keeps a word in sixteen bits, and a bit below 2
-pub ruleset bounds = (taken-lt, on-lt, x-lt, control-lt)
+pub ruleset bounds = (taken_lt, on_lt, x_lt, control_lt)
 
 -- the loops over the control pins, one pin at a time
-pub ruleset steps = (off-on, off-end, control-on, control-end)
+pub ruleset steps = (off_on, off_end, control_on, control_end)

@@ -3,9 +3,9 @@ use Rattle.std.specs.Prelude.{ℕ, suc, Bool, false, not, ◌&&◌, ◌||◌, Li
 use Rattle.base.specs.Choice.{pick}
 use Rattle.types.specs.declared.SdrrRomType.{SdrrRomType}
 use Rattle.board.specs.declared.BoardPins.{BoardPins}
-use Rattle.demangle.specs.Bits.{none, isBit}
-use Rattle.base_zero.specs.BaseZero.{baseZero}
-use Rattle.rom_rules.specs.Rules.{rulesOf, controlBits, several}
+use Rattle.demangle.specs.Bits.{none, is_bit}
+use Rattle.base_zero.specs.BaseZero.{base_zero}
+use Rattle.rom_rules.specs.Rules.{rules_of, control_bits, several}
 use Rattle.mangle.specs.declared.PinMap.{PinMap}
 
 -- sixteen pins that take nothing
@@ -14,66 +14,66 @@ unmapped =
     none ∷ none ∷ none ∷ none ∷ none ∷ none ∷ none ∷ none ∷ none ∷ none ∷ none ∷ none ∷ none ∷ none ∷ none ∷ none ∷ []
 
 -- address bits i, i + 1, .. each to its pin, a later one over an earlier; a pin at 16 or above is left out
-unfoldable pub withAddress : List ℕ → ℕ → List ℕ → List ℕ
-withAddress [] i m = m
-withAddress (p ∷ ps) i m = withAddress ps (suc i) (set m p i)
+unfoldable pub with_address : List ℕ → ℕ → List ℕ → List ℕ
+with_address [] i m = m
+with_address (p ∷ ps) i m = with_address ps (suc i) (set m p i)
 
-abbrev pub addressMap : List ℕ → List ℕ
-addressMap addr = withAddress addr 0 unmapped
+abbrev pub address_map : List ℕ → List ℕ
+address_map addr = with_address addr 0 unmapped
 
 abbrev pub off : ℕ → Bool
 off pin = leb 16 pin
 
-abbrev pub isMapped : List ℕ → ℕ → Bool
-isMapped m pin = isBit (get_or m pin none)
+abbrev pub is_mapped : List ℕ → ℕ → Bool
+is_mapped m pin = is_bit (get_or m pin none)
 
 -- X1 takes input bit 14, X2 takes 15; X2 wins where they are one pin
-unfoldable pub withX : List ℕ → (x1 x2 : ℕ) → List ℕ
-withX m x1 x2 = set (set m x1 14) x2 15
+unfoldable pub with_x : List ℕ → (x1 x2 : ℕ) → List ℕ
+with_x m x1 x2 = set (set m x1 14) x2 15
 
--- the control pins in the order of controlBits
-abbrev pub controlPins : BoardPins → List ℕ
-controlPins pins = pins.cs1 ∷ pins.cs2 ∷ pins.cs3 ∷ pins.oe ∷ pins.ce ∷ []
+-- the control pins in the order of control_bits
+abbrev pub control_pins : BoardPins → List ℕ
+control_pins pins = pins.cs1 ∷ pins.cs2 ∷ pins.cs3 ∷ pins.oe ∷ pins.ce ∷ []
 
 -- a control pin that has an input bit, at 16 or above
-unfoldable pub controlOff : List ℕ → List ℕ → Bool
-controlOff [] bs = false
-controlOff (p ∷ ps) [] = false
-controlOff (p ∷ ps) (b ∷ bs) = (isBit b && off p) || controlOff ps bs
+unfoldable pub control_off : List ℕ → List ℕ → Bool
+control_off [] bs = false
+control_off (p ∷ ps) [] = false
+control_off (p ∷ ps) (b ∷ bs) = (is_bit b && off p) || control_off ps bs
 
 -- a control pin that has an input bit takes it, whatever the pin took before
-unfoldable pub withControl : List ℕ → ℕ → ℕ → List ℕ
-withControl m pin bit = pick (isBit bit) (set m pin bit) m
+unfoldable pub with_control : List ℕ → ℕ → ℕ → List ℕ
+with_control m pin bit = pick (is_bit bit) (set m pin bit) m
 
-unfoldable pub withControls : List ℕ → List ℕ → List ℕ → List ℕ
-withControls [] bs m = m
-withControls (p ∷ ps) [] m = m
-withControls (p ∷ ps) (b ∷ bs) m = withControls ps bs (withControl m p b)
+unfoldable pub with_controls : List ℕ → List ℕ → List ℕ → List ℕ
+with_controls [] bs m = m
+with_controls (p ∷ ps) [] m = m
+with_controls (p ∷ ps) (b ∷ bs) m = with_controls ps bs (with_control m p b)
 
 -- the first of 72 to 76 that applies, or 0; m is the map of the address bits
-unfoldable pub mapNumber : List ℕ → (x1 x2 : ℕ) → List ℕ → ℕ → SdrrRomType → ℕ
-mapNumber m x1 x2 controls count type =
+unfoldable pub map_number : List ℕ → (x1 x2 : ℕ) → List ℕ → ℕ → SdrrRomType → ℕ
+map_number m x1 x2 controls count type =
     pick (several count && (off x1 || off x2)) 72
-    (pick (several count && (isMapped m x1 || isMapped m x2)) 73
+    (pick (several count && (is_mapped m x1 || is_mapped m x2)) 73
     (pick (eqb count 0) 74
-    (pick (not (rulesOf type).supported) 75
-    (pick (controlOff controls (controlBits type)) 76 0))))
+    (pick (not (rules_of type).supported) 75
+    (pick (control_off controls (control_bits type)) 76 0))))
 
 -- address, X1 and X2 with several ROMs, then the type's control pins
-unfoldable pub wholeMap : List ℕ → (x1 x2 : ℕ) → List ℕ → ℕ → SdrrRomType → List ℕ
-wholeMap m x1 x2 controls count type = withControls controls (controlBits type) (pick (several count) (withX m x1 x2) m)
+unfoldable pub whole_map : List ℕ → (x1 x2 : ℕ) → List ℕ → ℕ → SdrrRomType → List ℕ
+whole_map m x1 x2 controls count type = with_controls controls (control_bits type) (pick (several count) (with_x m x1 x2) m)
 
-unfoldable pub mapBy : List ℕ → (x1 x2 : ℕ) → List ℕ → ℕ → SdrrRomType → PinMap
-mapBy m x1 x2 controls count type =
+unfoldable pub map_by : List ℕ → (x1 x2 : ℕ) → List ℕ → ℕ → SdrrRomType → PinMap
+map_by m x1 x2 controls count type =
     record {
-      number = mapNumber m x1 x2 controls count type;
-      map = pick (eqb (mapNumber m x1 x2 controls count type) 0) (wholeMap m x1 x2 controls count type) unmapped;
+      number = map_number m x1 x2 controls count type;
+      map = pick (eqb (map_number m x1 x2 controls count type) 0) (whole_map m x1 x2 controls count type) unmapped;
     }
 
 -- of pins that are counted from zero
-unfoldable pub mapOf : BoardPins → ℕ → SdrrRomType → PinMap
-mapOf pins count type = mapBy (addressMap pins.addr) pins.x1 pins.x2 (controlPins pins) count type
+unfoldable pub map_of : BoardPins → ℕ → SdrrRomType → PinMap
+map_of pins count type = map_by (address_map pins.addr) pins.x1 pins.x2 (control_pins pins) count type
 
 -- of a pins record as it stands
-unfoldable pub pinMap : BoardPins → ℕ → SdrrRomType → PinMap
-pinMap pins count type = mapOf (baseZero pins) count type
+unfoldable pub pin_map : BoardPins → ℕ → SdrrRomType → PinMap
+pin_map pins count type = map_of (base_zero pins) count type

@@ -4,7 +4,7 @@
 pub mod map; // the sixteen pins
 
 ghost use Rattle.std.specs.Prelude.{◌≡◌};
-ghost use Rattle.mangle.specs.Mangle.{mangleCore};
+ghost use Rattle.mangle.specs.Mangle.{mangle_core};
 
 use base_zero::control_least;
 use board::BoardPins;
@@ -35,7 +35,7 @@ pub fn mangle_core(
     address: u32,
     cs_set: SdrrCsSet,
 ) -> Mangled
-    ensures { result ≡ mangleCore pins rom_count rom_type address cs_set }
+    ensures { result ≡ mangle_core pins rom_count rom_type address cs_set }
 {
     let m = least_pin(pins);
     let k = control_least(m, pins);

@@ -2,10 +2,10 @@
 // they are used.
 ghost use Rattle.std.specs.Prelude.{◌≡◌, ◌&&◌, ◌||◌, map, ◌<◌};
 ghost use Rattle.base.specs.Choice.{pick};
-ghost use Rattle.demangle.specs.Bits.{isBit};
+ghost use Rattle.demangle.specs.Bits.{is_bit};
 ghost use Rattle.base_zero.specs.BaseZero.{lowered};
-ghost use Rattle.mangle.specs.PinMap.{off, controlOff};
-ghost use Rattle.mangle.specs.Code.{isHighPin, onX, onControl, onControls, wordNumber, wholeWord, mangleWord};
+ghost use Rattle.mangle.specs.PinMap.{off, control_off};
+ghost use Rattle.mangle.specs.Code.{is_high_pin, on_x, on_control, on_controls, word_number, whole_word, mangle_word};
 
 use super::Mangled;
 use base::either;
@@ -16,15 +16,15 @@ use rom_rules::{control_bits, mangle_number, rules_of};
 use types::SdrrRomType;
 
 fn is_high_pin(v: u32, pin: u8) -> bool
-    ensures { result ≡ isHighPin v pin }
+    ensures { result ≡ is_high_pin v pin }
 {
     bit_of(v, pin) == 1
 }
 
-#[tactic(auto, using(crate::proofs::Steps::bounds), unfolding(crate::specs::Code::onX))]
+#[tactic(auto, using(crate::proofs::Steps::bounds), unfolding(crate::specs::Code::on_x))]
 fn with_x(k: u8, v: u32, x1: u8, x2: u8, word: u32) -> u32
     requires { v < 65536 }
-    ensures { result ≡ onX v (lowered k x1) (lowered k x2) word }
+    ensures { result ≡ on_x v (lowered k x1) (lowered k x2) word }
 {
     let one = put(v, lower(k, x1), bit_of(word, 14));
     put(one, lower(k, x2), bit_of(word, 15))
@@ -32,14 +32,14 @@ fn with_x(k: u8, v: u32, x1: u8, x2: u8, word: u32) -> u32
 
 // Whether the type uses the control pin and it is no pin of the sixteen.
 fn is_off(k: u8, pin: u8, bit: u8) -> bool
-    ensures { result ≡ (isBit bit && off (lowered k pin)) }
+    ensures { result ≡ (is_bit bit && off (lowered k pin)) }
 {
     if bit < 32 { 16 <= lower(k, pin) } else { false }
 }
 
 #[tactic(auto, using(crate::proofs::Steps::steps))]
 fn control_off(k: u8, controls: [u8; 5], bits: [u8; 5]) -> bool
-    ensures { result ≡ controlOff (map (lowered k) controls) bits }
+    ensures { result ≡ control_off (map (lowered k) controls) bits }
 {
     let mut i: usize = 0;
     while i < 5 {
@@ -52,10 +52,10 @@ fn control_off(k: u8, controls: [u8; 5], bits: [u8; 5]) -> bool
 }
 
 // The control pin takes its input bit, if it has one.
-#[tactic(auto, using(crate::proofs::Steps::bounds), unfolding(crate::specs::Code::onControl))]
+#[tactic(auto, using(crate::proofs::Steps::bounds), unfolding(crate::specs::Code::on_control))]
 fn put_control(k: u8, v: u32, pin: u8, bit: u8, word: u32) -> u32
     requires { v < 65536 }
-    ensures { result ≡ onControl v (lowered k pin) bit word }
+    ensures { result ≡ on_control v (lowered k pin) bit word }
 {
     if bit < 32 {
         put(v, lower(k, pin), bit_of(word, bit))
@@ -67,7 +67,7 @@ fn put_control(k: u8, v: u32, pin: u8, bit: u8, word: u32) -> u32
 #[tactic(auto, using(crate::proofs::Steps::steps, crate::proofs::Steps::bounds))]
 fn with_controls(k: u8, v: u32, controls: [u8; 5], bits: [u8; 5], word: u32) -> u32
     requires { v < 65536 }
-    ensures { result ≡ onControls (map (lowered k) controls) bits word v }
+    ensures { result ≡ on_controls (map (lowered k) controls) bits word v }
 {
     let mut w = v;
     let mut i: usize = 0;
@@ -110,7 +110,7 @@ fn x_off(several: bool, x1: u8, x2: u8) -> bool
 
 // X1 or X2 has an address bit on it.
 fn x_taken(several: bool, mapped: u32, x1: u8, x2: u8) -> bool
-    ensures { result ≡ (several && (isHighPin mapped x1 || isHighPin mapped x2)) }
+    ensures { result ≡ (several && (is_high_pin mapped x1 || is_high_pin mapped x2)) }
 {
     if several {
         either(is_high_pin(mapped, x1), is_high_pin(mapped, x2))
@@ -120,7 +120,7 @@ fn x_taken(several: bool, mapped: u32, x1: u8, x2: u8) -> bool
 }
 
 // X1 and X2 are tested before either is written.
-#[tactic(auto, unfolding(crate::specs::Code::wordNumber))]
+#[tactic(auto, unfolding(crate::specs::Code::word_number))]
 pub fn map_number(
     k: u8,
     mapped: u32,
@@ -130,7 +130,7 @@ pub fn map_number(
     rom_count: u32,
     rom_type: SdrrRomType,
 ) -> u8
-    ensures { result ≡ wordNumber mapped (lowered k x1) (lowered k x2) (map (lowered k) controls) rom_count rom_type }
+    ensures { result ≡ word_number mapped (lowered k x1) (lowered k x2) (map (lowered k) controls) rom_count rom_type }
 {
     let several = 2 <= rom_count;
     let r = rules_of(rom_type);
@@ -143,7 +143,7 @@ pub fn map_number(
 }
 
 // X1 and X2 with several ROMs, then the control pins.
-#[tactic(auto, using(crate::proofs::Steps::bounds), unfolding(crate::specs::Code::wholeWord))]
+#[tactic(auto, using(crate::proofs::Steps::bounds), unfolding(crate::specs::Code::whole_word))]
 fn whole_word(
     k: u8,
     v: u32,
@@ -155,7 +155,7 @@ fn whole_word(
     word: u32,
 ) -> u32
     requires { v < 65536 }
-    ensures { result ≡ wholeWord v (lowered k x1) (lowered k x2) (map (lowered k) controls) rom_count rom_type word }
+    ensures { result ≡ whole_word v (lowered k x1) (lowered k x2) (map (lowered k) controls) rom_count rom_type word }
 {
     let bits = control_bits(rom_type);
     if 2 <= rom_count {
@@ -165,7 +165,7 @@ fn whole_word(
 }
 
 // The mangled address, from the address pins as placed and the others as recorded.
-#[tactic(auto, unfolding(crate::specs::Code::mangleWord))]
+#[tactic(auto, unfolding(crate::specs::Code::mangle_word))]
 pub(crate) fn mangle_word(
     k: u8,
     a: Placed,
@@ -178,7 +178,7 @@ pub(crate) fn mangle_word(
     word: u32,
 ) -> Mangled
     requires { a.value < 65536 }
-    ensures { result ≡ mangleWord a (lowered k x1) (lowered k x2) (map (lowered k) controls) rom_count rom_type address word }
+    ensures { result ≡ mangle_word a (lowered k x1) (lowered k x2) (map (lowered k) controls) rom_count rom_type address word }
 {
     let n = map_number(k, a.mapped, x1, x2, controls, rom_count, rom_type);
     let number = mangle_number(n, rom_type, address);

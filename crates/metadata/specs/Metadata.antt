@@ -1,28 +1,28 @@
 -- Document 01, "Metadata": 256 bytes.
 use Rattle.std.specs.Prelude.{ℕ, not, ◌&&◌, List, [], ◌∷◌, ltb, eqb, length}
 use Rattle.base.specs.Choice.{pick}
-use Rattle.le.specs.Le.{u8At, u32At}
-use Rattle.magic.specs.Magic.{startsWith}
-use Rattle.prog.specs.Prog.{Prog, recordP}
+use Rattle.le.specs.Le.{u8_at, u32_at}
+use Rattle.magic.specs.Magic.{starts_with}
+use Rattle.prog.specs.Prog.{Prog, record_p}
 use Rattle.metadata.specs.declared.MetadataAnswer.{MetadataAnswer}
 
 -- "ONEROM_METADATA" and NUL
-abbrev pub metadataMagic : List ℕ
-metadataMagic = 79 ∷ 78 ∷ 69 ∷ 82 ∷ 79 ∷ 77 ∷ 95 ∷ 77 ∷ 69 ∷ 84 ∷ 65 ∷ 68 ∷ 65 ∷ 84 ∷ 65 ∷ 0 ∷ []
+abbrev pub metadata_magic : List ℕ
+metadata_magic = 79 ∷ 78 ∷ 69 ∷ 82 ∷ 79 ∷ 77 ∷ 95 ∷ 77 ∷ 69 ∷ 84 ∷ 65 ∷ 68 ∷ 65 ∷ 84 ∷ 65 ∷ 0 ∷ []
 
-abbrev pub refusedMetadata : ℕ → MetadataAnswer
-refusedMetadata n = record { number = n; rom_set_count = 0; rom_sets_ptr = 0 }
+abbrev pub refused_metadata : ℕ → MetadataAnswer
+refused_metadata n = record { number = n; rom_set_count = 0; rom_sets_ptr = 0 }
 
 -- version 16; set count 20 (a byte); sets pointer 24. Count 0 is present at any pointer.
 -- 2: ended. 30: magic. 31: version not 1. 32: count above 0, pointer 0.
-unfoldable pub metadataOf : List ℕ → MetadataAnswer
-metadataOf s =
-    pick (ltb (length s) 256) (refusedMetadata 2)
-    (pick (not (startsWith s metadataMagic)) (refusedMetadata 30)
-    (pick (not (eqb (u32At s 16) 1)) (refusedMetadata 31)
-    (pick (ltb 0 (u8At s 20) && eqb (u32At s 24) 0) (refusedMetadata 32)
-    (record { number = 0; rom_set_count = u8At s 20; rom_sets_ptr = u32At s 24 }))))
+unfoldable pub metadata_of : List ℕ → MetadataAnswer
+metadata_of s =
+    pick (ltb (length s) 256) (refused_metadata 2)
+    (pick (not (starts_with s metadata_magic)) (refused_metadata 30)
+    (pick (not (eqb (u32_at s 16) 1)) (refused_metadata 31)
+    (pick (ltb 0 (u8_at s 20) && eqb (u32_at s 24) 0) (refused_metadata 32)
+    (record { number = 0; rom_set_count = u8_at s 20; rom_sets_ptr = u32_at s 24 }))))
 
 -- 3: below base. 2: ended.
-unfoldable pub metadataP : ℕ → ℕ → Prog MetadataAnswer
-metadataP base pointer = recordP base pointer 256 refusedMetadata metadataOf
+unfoldable pub metadata_p : ℕ → ℕ → Prog MetadataAnswer
+metadata_p base pointer = record_p base pointer 256 refused_metadata metadata_of

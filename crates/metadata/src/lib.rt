@@ -3,7 +3,7 @@
 
 ghost use Rattle.std.specs.Prelude.{◌≡◌};
 ghost use Rattle.prog.specs.Prog.{run};
-ghost use Rattle.metadata.specs.Metadata.{refusedMetadata, metadataOf, metadataP};
+ghost use Rattle.metadata.specs.Metadata.{refused_metadata, metadata_of, metadata_p};
 
 const METADATA_SIZE: usize = 256;
 
@@ -23,7 +23,7 @@ pub enum MetadataItem {
 }
 
 fn refuse(number: u8) -> MetadataAnswer
-    ensures { result ≡ refusedMetadata number }
+    ensures { result ≡ refused_metadata number }
 {
     MetadataAnswer {
         number,
@@ -33,9 +33,9 @@ fn refuse(number: u8) -> MetadataAnswer
 }
 
 // The record at the front of data. A count of 0 is accepted at any pointer.
-#[tactic(auto, unfolding(crate::specs::Metadata::metadataOf))]
+#[tactic(auto, unfolding(crate::specs::Metadata::metadata_of))]
 pub fn parse_metadata(data: &[u8]) -> MetadataAnswer
-    ensures { result ≡ metadataOf «data».now }
+    ensures { result ≡ metadata_of «data».now }
 {
     if data.len() < METADATA_SIZE {
         return refuse(2);
@@ -60,7 +60,7 @@ pub fn parse_metadata(data: &[u8]) -> MetadataAnswer
 
 // The record at a pointer, given to `parse_metadata` as the image from there onward.
 pub fn read_one_rom_metadata_header_info(image: &[u8], base: u32, ptr: u32) -> MetadataAnswer
-    ensures { result ≡ run (metadataP base ptr) image.now }
+    ensures { result ≡ run (metadata_p base ptr) image.now }
 {
     let number = window::pointer_number(image, base, ptr, METADATA_SIZE);
     if number != 0 {

@@ -5,16 +5,16 @@ pub mod opening;
 pub mod reads;
 
 ghost use Rattle.std.specs.Prelude.{◌≡◌};
-ghost use Rattle.runtime_info.specs.Runtime.{runtimeOf};
-ghost use Rattle.runtime_info.specs.Words.{numberOf, wordsAfter};
-ghost use Rattle.text.specs.Text.{stringCall, partAfter};
-ghost use Rattle.c_board.specs.Value.{valueAfter};
-ghost use Rattle.c_mangle.specs.Board.{mangleCall, demangleCall};
+ghost use Rattle.runtime_info.specs.Runtime.{runtime_of};
+ghost use Rattle.runtime_info.specs.Words.{number_of, words_after};
+ghost use Rattle.text.specs.Text.{string_call, part_after};
+ghost use Rattle.c_board.specs.Value.{value_after};
+ghost use Rattle.c_mangle.specs.Board.{mangle_call, demangle_call};
 
 #[unsafe(no_mangle)]
 pub extern "C" fn onerom_runtime(record: &[u8], ram_base: u32, words: &mut [u32; 25]) -> u32
-    ensures reply { result ≡ numberOf (runtimeOf «record».now ram_base) }
-    ensures words { words.new ≡ wordsAfter (runtimeOf «record».now ram_base) words.old }
+    ensures reply { result ≡ number_of (runtime_of «record».now ram_base) }
+    ensures words { words.new ≡ words_after (runtime_of «record».now ram_base) words.old }
 {
     c_runtime::runtime_call(record, ram_base, words)
 }
@@ -26,8 +26,8 @@ pub extern "C" fn onerom_string(
     pointer: u32,
     part: &mut [u32; text::PART_WORDS],
 ) -> u32
-    ensures reply { result ≡ (stringCall base pointer image.now).number }
-    ensures part { part.new ≡ partAfter (stringCall base pointer image.now) part.old }
+    ensures reply { result ≡ (string_call base pointer image.now).number }
+    ensures part { part.new ≡ part_after (string_call base pointer image.now) part.old }
 {
     c_string::string_call(image, base, pointer, part)
 }
@@ -45,8 +45,8 @@ pub extern "C" fn onerom_mangle(
     levels: &[u8; 5],
     value: &mut u32,
 ) -> u32
-    ensures reply { result ≡ (mangleCall pins_number rom_pins addr.now control.now served set_rows.now rom_rows.now address levels.now).number }
-    ensures value { value.new ≡ valueAfter result (mangleCall pins_number rom_pins addr.now control.now served set_rows.now rom_rows.now address levels.now).value value.old }
+    ensures reply { result ≡ (mangle_call pins_number rom_pins addr.now control.now served set_rows.now rom_rows.now address levels.now).number }
+    ensures value { value.new ≡ value_after result (mangle_call pins_number rom_pins addr.now control.now served set_rows.now rom_rows.now address levels.now).value value.old }
 {
     c_mangle::mangle_call(
         pins_number,
@@ -64,8 +64,8 @@ pub extern "C" fn onerom_mangle(
 
 #[unsafe(no_mangle)]
 pub extern "C" fn onerom_demangle(pins_number: u8, data: &[u8; 8], byte: u8, value: &mut u8) -> u32
-    ensures reply { result ≡ (demangleCall pins_number «data».now byte).number }
-    ensures value { value.new ≡ valueAfter result (demangleCall pins_number «data».now byte).value value.old }
+    ensures reply { result ≡ (demangle_call pins_number «data».now byte).number }
+    ensures value { value.new ≡ value_after result (demangle_call pins_number «data».now byte).value value.old }
 {
     c_mangle::demangle_call(pins_number, data, byte, value)
 }

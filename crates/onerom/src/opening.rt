@@ -1,7 +1,7 @@
 // The opening, for C and Rust.
 ghost use Rattle.std.specs.Prelude.{◌≡◌};
-ghost use Rattle.fw_parser.specs.Opening.{setRowsLeft, romRowsLeft};
-ghost use Rattle.c_open.specs.Opening.{openCall, openingOut};
+ghost use Rattle.fw_parser.specs.Opening.{set_rows_left, rom_rows_left};
+ghost use Rattle.c_open.specs.Opening.{open_call, opening_out};
 
 use c_open::OneromOpening;
 
@@ -14,9 +14,9 @@ pub extern "C" fn onerom_open(
     set_rows: &mut [u32],
     rom_rows: &mut [u32],
 ) -> OneromOpening
-    ensures reply { result ≡ openingOut (openCall flash_base cs0_base info_offset set_rows.old rom_rows.old image.now) }
-    ensures sets { set_rows.new ≡ setRowsLeft (openCall flash_base cs0_base info_offset set_rows.old rom_rows.old image.now) set_rows.old }
-    ensures roms { rom_rows.new ≡ romRowsLeft (openCall flash_base cs0_base info_offset set_rows.old rom_rows.old image.now) rom_rows.old }
+    ensures reply { result ≡ opening_out (open_call flash_base cs0_base info_offset set_rows.old rom_rows.old image.now) }
+    ensures sets { set_rows.new ≡ set_rows_left (open_call flash_base cs0_base info_offset set_rows.old rom_rows.old image.now) set_rows.old }
+    ensures roms { rom_rows.new ≡ rom_rows_left (open_call flash_base cs0_base info_offset set_rows.old rom_rows.old image.now) rom_rows.old }
 {
     c_open::open_call(image, flash_base, cs0_base, info_offset, set_rows, rom_rows)
 }

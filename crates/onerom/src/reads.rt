@@ -1,12 +1,12 @@
 // ROM data, the byte reads, size and same set, for C and Rust.
 ghost use Rattle.std.specs.Prelude.{◌≡◌, true, false, length};
-ghost use Rattle.set_data.specs.Data.{sizeCall};
-ghost use Rattle.same_set.specs.Same.{sameSet};
-ghost use Rattle.info.specs.Reads.{bufferLeft};
-ghost use Rattle.c_board.specs.Value.{valueAfter};
-ghost use Rattle.byte_reads.specs.Calls.{byteOf};
-ghost use Rattle.jobs.specs.Jobs.{countsLeft};
-ghost use Rattle.c_job_reads.specs.Reads.{dataCall, byteCall, ownCall};
+ghost use Rattle.set_data.specs.Data.{size_call};
+ghost use Rattle.same_set.specs.Same.{same_set};
+ghost use Rattle.info.specs.Reads.{buffer_left};
+ghost use Rattle.c_board.specs.Value.{value_after};
+ghost use Rattle.byte_reads.specs.Calls.{byte_of};
+ghost use Rattle.jobs.specs.Jobs.{counts_left};
+ghost use Rattle.c_job_reads.specs.Reads.{data_call, byte_call, own_call};
 
 use c_report::OneromReport;
 
@@ -17,8 +17,8 @@ pub extern "C" fn onerom_get_rom_set_size(
     set: u32,
     value: &mut u32,
 ) -> u32
-    ensures reply { result ≡ (sizeCall served set_rows.now set).number }
-    ensures value { value.new ≡ valueAfter result (sizeCall served set_rows.now set).value value.old }
+    ensures reply { result ≡ (size_call served set_rows.now set).number }
+    ensures value { value.new ≡ value_after result (size_call served set_rows.now set).value value.old }
 {
     c_sets::size_call(served, set_rows, set, value)
 }
@@ -32,8 +32,8 @@ pub extern "C" fn onerom_same_set(
     b: u32,
     value: &mut u32,
 ) -> u32
-    ensures reply { result ≡ (sameSet served set_rows.now rom_rows.now a b).number }
-    ensures value { value.new ≡ valueAfter result (sameSet served set_rows.now rom_rows.now a b).value value.old }
+    ensures reply { result ≡ (same_set served set_rows.now rom_rows.now a b).number }
+    ensures value { value.new ≡ value_after result (same_set served set_rows.now rom_rows.now a b).value value.old }
 {
     c_sets::same_call(served, set_rows, rom_rows, a, b, value)
 }
@@ -51,9 +51,9 @@ pub extern "C" fn onerom_read_rom_set_data(
     job: u32,
     counts: &mut [u32; job_counts::JOBS],
 ) -> u32
-    ensures reply { result ≡ (dataCall flash_base cs0_base report set_rows.now set offset (length buffer.old) job counts.old image.now).number }
-    ensures buffer { buffer.new ≡ bufferLeft (dataCall flash_base cs0_base report set_rows.now set offset (length buffer.old) job counts.old image.now) buffer.old }
-    ensures counts { counts.new ≡ countsLeft job counts.old (dataCall flash_base cs0_base report set_rows.now set offset (length buffer.old) job counts.old image.now) }
+    ensures reply { result ≡ (data_call flash_base cs0_base report set_rows.now set offset (length buffer.old) job counts.old image.now).number }
+    ensures buffer { buffer.new ≡ buffer_left (data_call flash_base cs0_base report set_rows.now set offset (length buffer.old) job counts.old image.now) buffer.old }
+    ensures counts { counts.new ≡ counts_left job counts.old (data_call flash_base cs0_base report set_rows.now set offset (length buffer.old) job counts.old image.now) }
 {
     c_job_reads::data_call(
         image, flash_base, cs0_base, report, set_rows, set, offset, buffer, job, counts,
@@ -76,9 +76,9 @@ pub extern "C" fn onerom_read_rom_byte_raw(
     counts: &mut [u32; job_counts::JOBS],
     value: &mut u8,
 ) -> u32
-    ensures reply { result ≡ (byteCall false flash_base cs0_base report set_rows.now rom_rows.now set logical address levels.now job counts.old image.now).number }
-    ensures counts { counts.new ≡ countsLeft job counts.old (byteCall false flash_base cs0_base report set_rows.now rom_rows.now set logical address levels.now job counts.old image.now) }
-    ensures value { value.new ≡ valueAfter result (byteOf (byteCall false flash_base cs0_base report set_rows.now rom_rows.now set logical address levels.now job counts.old image.now)).byte value.old }
+    ensures reply { result ≡ (byte_call false flash_base cs0_base report set_rows.now rom_rows.now set logical address levels.now job counts.old image.now).number }
+    ensures counts { counts.new ≡ counts_left job counts.old (byte_call false flash_base cs0_base report set_rows.now rom_rows.now set logical address levels.now job counts.old image.now) }
+    ensures value { value.new ≡ value_after result (byte_of (byte_call false flash_base cs0_base report set_rows.now rom_rows.now set logical address levels.now job counts.old image.now)).byte value.old }
 {
     c_job_reads::raw_byte_call(
         image, flash_base, cs0_base, report, set_rows, rom_rows, set, logical, address, levels,
@@ -102,9 +102,9 @@ pub extern "C" fn onerom_read_rom_byte_demangled(
     counts: &mut [u32; job_counts::JOBS],
     value: &mut u8,
 ) -> u32
-    ensures reply { result ≡ (byteCall true flash_base cs0_base report set_rows.now rom_rows.now set logical address levels.now job counts.old image.now).number }
-    ensures counts { counts.new ≡ countsLeft job counts.old (byteCall true flash_base cs0_base report set_rows.now rom_rows.now set logical address levels.now job counts.old image.now) }
-    ensures value { value.new ≡ valueAfter result (byteOf (byteCall true flash_base cs0_base report set_rows.now rom_rows.now set logical address levels.now job counts.old image.now)).byte value.old }
+    ensures reply { result ≡ (byte_call true flash_base cs0_base report set_rows.now rom_rows.now set logical address levels.now job counts.old image.now).number }
+    ensures counts { counts.new ≡ counts_left job counts.old (byte_call true flash_base cs0_base report set_rows.now rom_rows.now set logical address levels.now job counts.old image.now) }
+    ensures value { value.new ≡ value_after result (byte_of (byte_call true flash_base cs0_base report set_rows.now rom_rows.now set logical address levels.now job counts.old image.now)).byte value.old }
 {
     c_job_reads::demangled_byte_call(
         image, flash_base, cs0_base, report, set_rows, rom_rows, set, logical, address, levels,
@@ -127,9 +127,9 @@ pub extern "C" fn onerom_read_rom_byte_own(
     counts: &mut [u32; job_counts::JOBS],
     value: &mut u8,
 ) -> u32
-    ensures reply { result ≡ (ownCall flash_base cs0_base report set_rows.now rom_rows.now set address levels.now job counts.old image.now).number }
-    ensures counts { counts.new ≡ countsLeft job counts.old (ownCall flash_base cs0_base report set_rows.now rom_rows.now set address levels.now job counts.old image.now) }
-    ensures value { value.new ≡ valueAfter result (byteOf (ownCall flash_base cs0_base report set_rows.now rom_rows.now set address levels.now job counts.old image.now)).byte value.old }
+    ensures reply { result ≡ (own_call flash_base cs0_base report set_rows.now rom_rows.now set address levels.now job counts.old image.now).number }
+    ensures counts { counts.new ≡ counts_left job counts.old (own_call flash_base cs0_base report set_rows.now rom_rows.now set address levels.now job counts.old image.now) }
+    ensures value { value.new ≡ value_after result (byte_of (own_call flash_base cs0_base report set_rows.now rom_rows.now set address levels.now job counts.old image.now)).byte value.old }
 {
     c_job_reads::own_byte_call(
         image, flash_base, cs0_base, report, set_rows, rom_rows, set, address, levels, job, counts,

@@ -3,10 +3,10 @@
 #![tactic(auto)]
 
 ghost use Rattle.std.specs.Prelude.{◌≡◌};
-ghost use Rattle.info.specs.Lent.{lentBy};
-ghost use Rattle.info.specs.Reads.{own, romRead};
-ghost use Rattle.byte_reads.specs.Calls.{byteOf};
-ghost use Rattle.byte_reads.specs.Code.{shownFrom};
+ghost use Rattle.info.specs.Lent.{lent_by};
+ghost use Rattle.info.specs.Reads.{own, rom_read};
+ghost use Rattle.byte_reads.specs.Calls.{byte_of};
+ghost use Rattle.byte_reads.specs.Code.{shown_from};
 
 use board::Board;
 use byte_reads::ByteRead;
@@ -14,9 +14,9 @@ use types::SdrrCsSet;
 
 // A raw byte that was read, demangled: 79 counts nothing. 70 is not asked again, since a byte that was read had accepted pins. byte_reads' own
 // function is left to the old read: so in C's archive each has one caller, to which the compiler joins it.
-#[tactic(auto, unfolding(byte_reads::specs::Code::shownFrom))]
+#[tactic(auto, unfolding(byte_reads::specs::Code::shown_from))]
 pub fn shown_own(data: [u8; 8], raw: ByteRead, count: u32) -> ByteRead
-    ensures { result ≡ shownFrom 0 «data» raw count }
+    ensures { result ≡ shown_from 0 «data» raw count }
 {
     if raw.number != 0 {
         return raw;
@@ -46,7 +46,7 @@ pub fn byte_own_on_count(
     cs_set: SdrrCsSet,
     count: u32,
 ) -> ByteRead
-    ensures { result ≡ byteOf (romRead board.flash_base board.cs0_base (lentBy board set_rows.now rom_rows.now) count (own set address cs_set) image.now) }
+    ensures { result ≡ byte_of (rom_read board.flash_base board.cs0_base (lent_by board set_rows.now rom_rows.now) count (own set address cs_set) image.now) }
 {
     let pins = board.pins;
     let served = board.served;

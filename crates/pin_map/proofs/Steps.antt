@@ -6,27 +6,27 @@ use mathlib.Core.Path.{◌≡◌}
 use mathlib.Core.List.{List}
 use lib.ListN.{length, get_or, drop, set, drop_of_length-le}
 use lib.Seq.{drop-cons}
-use Rattle.mangle.specs.PinMap.{withAddress, withControl, withControls}
+use Rattle.mangle.specs.PinMap.{with_address, with_control, with_controls}
 
 -- one more address bit to its pin
-pub address-on : (ps m : List ℕ) (i : ℕ) → i < length ps
-    → withAddress (drop i ps) i m ≡ withAddress (drop (i + 1) ps) (i + 1) (set m (get_or ps i 0) i)
-unfolding withAddress
-address-on ps m i h = rw (add-one i, drop-cons ps i 0)
+pub address_on : (ps m : List ℕ) (i : ℕ) → i < length ps
+    → with_address (drop i ps) i m ≡ with_address (drop (i + 1) ps) (i + 1) (set m (get_or ps i 0) i)
+unfolding with_address
+address_on ps m i h = rw (add-one i, drop-cons ps i 0)
 
-pub address-end : (ps m : List ℕ) (i : ℕ) → length ps ≤ i → withAddress (drop i ps) i m ≡ m
-unfolding withAddress
-address-end ps m i h = rw (drop_of_length-le ps h)
+pub address_end : (ps m : List ℕ) (i : ℕ) → length ps ≤ i → with_address (drop i ps) i m ≡ m
+unfolding with_address
+address_end ps m i h = rw (drop_of_length-le ps h)
 
 -- one more control pin
-pub control-on : (ps bs m : List ℕ) (i : ℕ) → i < length ps → i < length bs
-    → withControls (drop i ps) (drop i bs) m ≡ withControls (drop (i + 1) ps) (drop (i + 1) bs) (withControl m (get_or ps i 0) (get_or bs i 0))
-unfolding withControls
-control-on ps bs m i h k = rw (add-one i, drop-cons ps i 0, drop-cons bs i 0)
+pub control_on : (ps bs m : List ℕ) (i : ℕ) → i < length ps → i < length bs
+    → with_controls (drop i ps) (drop i bs) m ≡ with_controls (drop (i + 1) ps) (drop (i + 1) bs) (with_control m (get_or ps i 0) (get_or bs i 0))
+unfolding with_controls
+control_on ps bs m i h k = rw (add-one i, drop-cons ps i 0, drop-cons bs i 0)
 
-pub control-end : (ps bs m : List ℕ) (i : ℕ) → length ps ≤ i → withControls (drop i ps) (drop i bs) m ≡ m
-unfolding withControls
-control-end ps bs m i h = rw (drop_of_length-le ps h)
+pub control_end : (ps bs m : List ℕ) (i : ℕ) → length ps ≤ i → with_controls (drop i ps) (drop i bs) m ≡ m
+unfolding with_controls
+control_end ps bs m i h = rw (drop_of_length-le ps h)
 
 -- the loops, one pin at a time
-pub ruleset steps = (address-on, address-end, control-on, control-end)
+pub ruleset steps = (address_on, address_end, control_on, control_end)

@@ -3,7 +3,7 @@
 #![tactic(auto)]
 
 ghost use Rattle.std.specs.Prelude.{◌≡◌, set};
-ghost use Rattle.mangle.specs.PinMap.{unmapped, addressMap, withX, withControl, withControls, wholeMap, pinMap};
+ghost use Rattle.mangle.specs.PinMap.{unmapped, address_map, with_x, with_control, with_controls, whole_map, pin_map};
 
 use base_zero::{base_zero, control_least};
 use board::BoardPins;
@@ -34,7 +34,7 @@ fn put(map: &mut [u8], pin: u8, bit: u8)
 // A later address bit wins over an earlier one on the same pin.
 #[tactic(auto, using(crate::proofs::Steps::steps))]
 fn address_map(addr: [u8; 16]) -> [u8; 16]
-    ensures { result ≡ addressMap addr }
+    ensures { result ≡ address_map addr }
 {
     let mut map = unmapped();
     let mut i: usize = 0;
@@ -46,9 +46,9 @@ fn address_map(addr: [u8; 16]) -> [u8; 16]
 }
 
 // X2 wins where X1 and X2 are one pin.
-#[tactic(auto, unfolding(mangle::specs::PinMap::withX))]
+#[tactic(auto, unfolding(mangle::specs::PinMap::with_x))]
 fn with_x(map: [u8; 16], x1: u8, x2: u8) -> [u8; 16]
-    ensures { result ≡ withX map x1 x2 }
+    ensures { result ≡ with_x map x1 x2 }
 {
     let mut m = map;
     put(&mut m, x1, 14);
@@ -57,9 +57,9 @@ fn with_x(map: [u8; 16], x1: u8, x2: u8) -> [u8; 16]
 }
 
 // The control pin takes its input bit, if it has one, whatever the pin took before.
-#[tactic(auto, unfolding(mangle::specs::PinMap::withControl))]
+#[tactic(auto, unfolding(mangle::specs::PinMap::with_control))]
 fn put_control(map: &mut [u8], pin: u8, bit: u8)
-    ensures { map.new ≡ withControl map.old pin bit }
+    ensures { map.new ≡ with_control map.old pin bit }
 {
     if bit < 32 {
         put(map, pin, bit);
@@ -68,7 +68,7 @@ fn put_control(map: &mut [u8], pin: u8, bit: u8)
 
 #[tactic(auto, using(crate::proofs::Steps::steps))]
 fn with_controls(map: [u8; 16], controls: [u8; 5], bits: [u8; 5]) -> [u8; 16]
-    ensures { result ≡ withControls controls bits map }
+    ensures { result ≡ with_controls controls bits map }
 {
     let mut m = map;
     let mut i: usize = 0;
@@ -80,7 +80,7 @@ fn with_controls(map: [u8; 16], controls: [u8; 5], bits: [u8; 5]) -> [u8; 16]
 }
 
 // X1 and X2 with several ROMs, then the control pins.
-#[tactic(auto, unfolding(mangle::specs::PinMap::wholeMap))]
+#[tactic(auto, unfolding(mangle::specs::PinMap::whole_map))]
 fn whole_map(
     map: [u8; 16],
     x1: u8,
@@ -89,7 +89,7 @@ fn whole_map(
     rom_count: u32,
     rom_type: SdrrRomType,
 ) -> [u8; 16]
-    ensures { result ≡ wholeMap map x1 x2 controls rom_count rom_type }
+    ensures { result ≡ whole_map map x1 x2 controls rom_count rom_type }
 {
     let bits = control_bits(rom_type);
     if 2 <= rom_count {
@@ -100,7 +100,7 @@ fn whole_map(
 
 // The number of a pins record's map, 72 to 76 or 0. Which pins have an address bit does not depend on the word.
 pub fn pin_map_number(pins: BoardPins, rom_count: u32, rom_type: SdrrRomType) -> u8
-    ensures { result ≡ (pinMap pins rom_count rom_type).number }
+    ensures { result ≡ (pin_map pins rom_count rom_type).number }
 {
     let m = least_pin(pins);
     let k = control_least(m, pins);
@@ -111,9 +111,9 @@ pub fn pin_map_number(pins: BoardPins, rom_count: u32, rom_type: SdrrRomType) ->
 }
 
 // The map of a pins record, with the ROM count and the first type of the set that governs.
-#[tactic(auto, unfolding(mangle::specs::PinMap::pinMap, mangle::specs::PinMap::mapOf, mangle::specs::PinMap::mapBy))]
+#[tactic(auto, unfolding(mangle::specs::PinMap::pin_map, mangle::specs::PinMap::map_of, mangle::specs::PinMap::map_by))]
 pub fn pin_map(pins: BoardPins, rom_count: u32, rom_type: SdrrRomType) -> PinMap
-    ensures { result ≡ pinMap pins rom_count rom_type }
+    ensures { result ≡ pin_map pins rom_count rom_type }
 {
     let number = pin_map_number(pins, rom_count, rom_type);
     if number != 0 {

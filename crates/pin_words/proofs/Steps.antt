@@ -6,22 +6,22 @@ use mathlib.Core.List.{List, map}
 use lib.ListN.{length, get_or, drop, drop_of_length-le}
 use lib.Seq.{drop-cons}
 use Rattle.pin_words.specs.declared.Placed.{Placed}
-use Rattle.pin_words.specs.Code.{onPins, allHigh, stepPin}
+use Rattle.pin_words.specs.Code.{on_pins, all_high, step_pin}
 
 -- the pins from the i-th on, over those before
-abbrev pub restOn : (ℕ → ℕ) → List ℕ → ℕ → ℕ → Placed → Placed
-restOn f ps w i s = record { value = onPins (map f (drop i ps)) i w s.value; mapped = onPins (map f (drop i ps)) i allHigh s.mapped }
+abbrev pub rest_on : (ℕ → ℕ) → List ℕ → ℕ → ℕ → Placed → Placed
+rest_on f ps w i s = record { value = on_pins (map f (drop i ps)) i w s.value; mapped = on_pins (map f (drop i ps)) i all_high s.mapped }
 
-rest-on : (f : ℕ → ℕ) (ps : List ℕ) (w i : ℕ) (s : Placed) → i < length ps
-    → restOn f ps w i s ≡ restOn f ps w (suc i) (stepPin s (f (get_or ps i 0)) w i)
-unfolding onPins
-rest-on f ps w i s h = rw (drop-cons ps i 0)
+rest_on_is : (f : ℕ → ℕ) (ps : List ℕ) (w i : ℕ) (s : Placed) → i < length ps
+    → rest_on f ps w i s ≡ rest_on f ps w (suc i) (step_pin s (f (get_or ps i 0)) w i)
+unfolding on_pins
+rest_on_is f ps w i s h = rw (drop-cons ps i 0)
 
 -- what is left after a step is what was left before
-pub rest-step : (f : ℕ → ℕ) (ps : List ℕ) (w i : ℕ) (s t : Placed) → i < length ps → t ≡ stepPin s (f (get_or ps i 0)) w i
-    → restOn f ps w (suc i) t ≡ restOn f ps w i s
-rest-step f ps w i s t h d = rw d (sym (rest-on f ps w i s h))
+pub rest_step : (f : ℕ → ℕ) (ps : List ℕ) (w i : ℕ) (s t : Placed) → i < length ps → t ≡ step_pin s (f (get_or ps i 0)) w i
+    → rest_on f ps w (suc i) t ≡ rest_on f ps w i s
+rest_step f ps w i s t h d = rw d (sym (rest_on_is f ps w i s h))
 
-pub rest-end : (f : ℕ → ℕ) (ps : List ℕ) (w i : ℕ) (s : Placed) → length ps ≤ i → restOn f ps w i s ≡ s
-unfolding onPins
-rest-end f ps w i s h = rw (drop_of_length-le ps h)
+pub rest_end : (f : ℕ → ℕ) (ps : List ℕ) (w i : ℕ) (s : Placed) → length ps ≤ i → rest_on f ps w i s ≡ s
+unfolding on_pins
+rest_end f ps w i s h = rw (drop_of_length-le ps h)

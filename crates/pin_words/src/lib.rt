@@ -5,8 +5,8 @@
 ghost use Rattle.std.specs.Prelude.{◌≡◌, map, ◌+◌, ◌*◌, ◌-◌, ◌^◌, ◌≤◌, ◌<◌};
 ghost use Rattle.std.specs.Int.Bits.{bit_and};
 ghost use Rattle.base_zero.specs.BaseZero.{lowered};
-ghost use Rattle.least_pin.specs.Laws.{allFrom};
-ghost use Rattle.pin_words.specs.Code.{onPin, stepPin, placed, limit};
+ghost use Rattle.least_pin.specs.Laws.{all_from};
+ghost use Rattle.pin_words.specs.Code.{on_pin, step_pin, placed, limit};
 
 use demangle::bit_of;
 
@@ -20,16 +20,16 @@ pub struct Placed {
 // Pin of v at level b.
 fn put_at(v: u32, pin: u8, b: u32) -> u32
     requires { (v < 65536) × (pin < 16) × (b < 2) }
-    ensures { result ≡ onPin v pin b }
+    ensures { result ≡ on_pin v pin b }
 {
     (v | (1 << pin)) ^ ((b ^ 1) << pin)
 }
 
 // Pin of v at level b; a pin past the sixteen is left out.
-#[tactic(auto, unfolding(crate::specs::Code::onPin))]
+#[tactic(auto, unfolding(crate::specs::Code::on_pin))]
 pub fn put(v: u32, pin: u8, b: u32) -> u32
     requires { (v < 65536) × (b < 2) }
-    ensures { result ≡ onPin v pin b }
+    ensures { result ≡ on_pin v pin b }
 {
     if pin < 16 { put_at(v, pin, b) } else { v }
 }
@@ -70,7 +70,7 @@ fn with_level(v: u32, bit: u32, b: u32) -> u32
 // all the pins; m is what the contract says it by.
 fn one_pin(s: Placed, m: u8, top: u32, lim: u8, pin: u8, word: u32, i: u8) -> Placed
     requires { (lim ≡ limit m) × (i < 32) × (s.value < 65536) × (s.mapped < 65536) × (m ≤ pin) × (top ≡ m + 15) }
-    ensures reply { result ≡ stepPin s (lowered m pin) word i }
+    ensures reply { result ≡ step_pin s (lowered m pin) word i }
     ensures below { (result.value < 65536) × (result.mapped < 65536) }
 {
     if lim <= pin {
@@ -86,7 +86,7 @@ fn one_pin(s: Placed, m: u8, top: u32, lim: u8, pin: u8, word: u32, i: u8) -> Pl
 
 // The word's bits on the address pins, which are lowered by m first. Written out: a loop of sixteen is not unrolled.
 pub fn address_pins(m: u8, addr: [u8; 16], word: u32) -> Placed
-    requires { allFrom m addr }
+    requires { all_from m addr }
     ensures { result ≡ placed (map (lowered m) addr) word }
 {
     let lim = limit(m);

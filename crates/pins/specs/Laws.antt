@@ -3,28 +3,28 @@
 use Rattle.std.specs.Prelude.{ℕ, ◌≤◌, ◌<◌, ◌≡◌, true, false, List, length, take}
 use Rattle.std.proofs.Common.{lt-ltb, le-ltb}
 use Rattle.prog.specs.Laws.Honest.{Honest, honesty}
-use Rattle.prog.specs.Laws.Record.{front-byte, front-short}
+use Rattle.prog.specs.Laws.Record.{front_byte, front_short}
 use Rattle.pins.specs.declared.PinsItem.{PinsItem}
-use Rattle.pins.specs.Pins.{pinsFields, refusedPins, unknownPort, pinsOf, pinsP}
+use Rattle.pins.specs.Pins.{pins_fields, refused_pins, unknown_port, pins_of, pins_p}
 
-pub pins-honest : (base pointer : ℕ) → Honest (λ (a : PinsItem). a.number ≡ 2) (pinsP base pointer)
-unfolding pinsP
-pins-honest base pointer = search honesty
+pub pins_honest : (base pointer : ℕ) → Honest (λ (a : PinsItem). a.number ≡ 2) (pins_p base pointer)
+unfolding pins_p
+pins_honest base pointer = search honesty
 
-pub pins-front : (s : List ℕ) → pinsOf (take 88 s) ≡ pinsOf s
-unfolding pinsOf pinsFields
-pins-front s = simp (front-short 88, front-byte 88)
+pub pins_front : (s : List ℕ) → pins_of (take 88 s) ≡ pins_of s
+unfolding pins_of pins_fields
+pins_front s = simp (front_short 88, front_byte 88)
 
 module _ (s : List ℕ) where
-  pub pins-short : length s < 88 → pinsOf s ≡ refusedPins 2
-  unfolding pinsOf
-  pins-short h = rw (lt-ltb (length s) 88 h)
+  pub pins_short : length s < 88 → pins_of s ≡ refused_pins 2
+  unfolding pins_of
+  pins_short h = rw (lt-ltb (length s) 88 h)
 
   module _ (whole : 88 ≤ length s) where
-    pub pins-unknown-port : unknownPort s ≡ true → pinsOf s ≡ refusedPins 50
-    unfolding pinsOf
-    pins-unknown-port e = rw (le-ltb (length s) 88 whole, e)
+    pub pins_unknown_port : unknown_port s ≡ true → pins_of s ≡ refused_pins 50
+    unfolding pins_of
+    pins_unknown_port e = rw (le-ltb (length s) 88 whole, e)
 
-    pub pins-whole : unknownPort s ≡ false → pinsOf s ≡ record { number = 0; pins = pinsFields s }
-    unfolding pinsOf
-    pins-whole e = rw (le-ltb (length s) 88 whole, e)
+    pub pins_whole : unknown_port s ≡ false → pins_of s ≡ record { number = 0; pins = pins_fields s }
+    unfolding pins_of
+    pins_whole e = rw (le-ltb (length s) 88 whole, e)

@@ -1,58 +1,58 @@
 -- Document 01, "Pins": 88 bytes read.
 use Rattle.std.specs.Prelude.{ℕ, Bool, ◌||◌, List, [], ◌∷◌, ◌++◌, ltb, eqb, length}
 use Rattle.base.specs.Choice.{pick}
-use Rattle.le.specs.Le.{u8At}
-use Rattle.runs.specs.Runs.{eightAt, sixteenAt}
+use Rattle.le.specs.Le.{u8_at}
+use Rattle.runs.specs.Runs.{eight_at, sixteen_at}
 use Rattle.types.specs.declared.SdrrMcuPort.{SdrrMcuPort}
-use Rattle.types.specs.Types.{portOf}
-use Rattle.prog.specs.Prog.{Prog, recordP}
+use Rattle.types.specs.Types.{port_of}
+use Rattle.prog.specs.Prog.{Prog, record_p}
 use Rattle.pins.specs.declared.SdrrPins.{SdrrPins}
 use Rattle.pins.specs.declared.PinsItem.{PinsItem}
 
-abbrev pub eightZeros : List ℕ
-eightZeros = 0 ∷ 0 ∷ 0 ∷ 0 ∷ 0 ∷ 0 ∷ 0 ∷ 0 ∷ []
+abbrev pub eight_zeros : List ℕ
+eight_zeros = 0 ∷ 0 ∷ 0 ∷ 0 ∷ 0 ∷ 0 ∷ 0 ∷ 0 ∷ []
 
 -- Where each field stands in the record. The second arrays count only where `extended` is 1; otherwise they are zeros.
-unfoldable pub pinsFields : List ℕ → SdrrPins
-pinsFields s =
+unfoldable pub pins_fields : List ℕ → SdrrPins
+pins_fields s =
     record {
-      data_port = portOf (u8At s 0);
-      addr_port = portOf (u8At s 1);
-      cs_port = portOf (u8At s 2);
-      sel_port = portOf (u8At s 3);
-      status_port = portOf (u8At s 4);
-      rom_pins = u8At s 5;
-      «data» = eightAt s 8;
-      addr = sixteenAt s 16;
-      cs1 = u8At s 36;
-      cs2 = u8At s 37;
-      cs3 = u8At s 38;
-      reserved2a = u8At s 39;
-      reserved2b = u8At s 40;
-      reserved2c = u8At s 41;
-      x1 = u8At s 42;
-      x2 = u8At s 43;
-      ce = u8At s 44;
-      oe = u8At s 45;
-      x_jumper_pull = u8At s 46;
-      swclk_sel = u8At s 50;
-      swdio_sel = u8At s 51;
-      sel0 = u8At s 52;
-      sel1 = u8At s 53;
-      sel2 = u8At s 54;
-      sel3 = u8At s 55;
-      sel4 = u8At s 56;
-      sel5 = u8At s 57;
-      sel6 = u8At s 58;
-      sel_jumper_pull = u8At s 59;
-      status = u8At s 60;
-      extended = u8At s 63;
-      data2 = pick (eqb (u8At s 63) 1) (eightAt s 64) eightZeros;
-      addr2 = pick (eqb (u8At s 63) 1) (sixteenAt s 72) (eightZeros ++ eightZeros);
+      data_port = port_of (u8_at s 0);
+      addr_port = port_of (u8_at s 1);
+      cs_port = port_of (u8_at s 2);
+      sel_port = port_of (u8_at s 3);
+      status_port = port_of (u8_at s 4);
+      rom_pins = u8_at s 5;
+      «data» = eight_at s 8;
+      addr = sixteen_at s 16;
+      cs1 = u8_at s 36;
+      cs2 = u8_at s 37;
+      cs3 = u8_at s 38;
+      reserved2a = u8_at s 39;
+      reserved2b = u8_at s 40;
+      reserved2c = u8_at s 41;
+      x1 = u8_at s 42;
+      x2 = u8_at s 43;
+      ce = u8_at s 44;
+      oe = u8_at s 45;
+      x_jumper_pull = u8_at s 46;
+      swclk_sel = u8_at s 50;
+      swdio_sel = u8_at s 51;
+      sel0 = u8_at s 52;
+      sel1 = u8_at s 53;
+      sel2 = u8_at s 54;
+      sel3 = u8_at s 55;
+      sel4 = u8_at s 56;
+      sel5 = u8_at s 57;
+      sel6 = u8_at s 58;
+      sel_jumper_pull = u8_at s 59;
+      status = u8_at s 60;
+      extended = u8_at s 63;
+      data2 = pick (eqb (u8_at s 63) 1) (eight_at s 64) eight_zeros;
+      addr2 = pick (eqb (u8_at s 63) 1) (sixteen_at s 72) (eight_zeros ++ eight_zeros);
     }
 
-unfoldable pub noPins : SdrrPins
-noPins =
+unfoldable pub no_pins : SdrrPins
+no_pins =
     record {
       data_port = SdrrMcuPort.None;
       addr_port = SdrrMcuPort.None;
@@ -60,8 +60,8 @@ noPins =
       sel_port = SdrrMcuPort.None;
       status_port = SdrrMcuPort.None;
       rom_pins = 0;
-      «data» = eightZeros;
-      addr = eightZeros ++ eightZeros;
+      «data» = eight_zeros;
+      addr = eight_zeros ++ eight_zeros;
       cs1 = 0;
       cs2 = 0;
       cs3 = 0;
@@ -85,22 +85,22 @@ noPins =
       sel_jumper_pull = 0;
       status = 0;
       extended = 0;
-      data2 = eightZeros;
-      addr2 = eightZeros ++ eightZeros;
+      data2 = eight_zeros;
+      addr2 = eight_zeros ++ eight_zeros;
     }
 
-abbrev pub refusedPins : ℕ → PinsItem
-refusedPins n = record { number = n; pins = noPins }
+abbrev pub refused_pins : ℕ → PinsItem
+refused_pins n = record { number = n; pins = no_pins }
 
 -- each port is 0..5
-abbrev pub unknownPort : List ℕ → Bool
-unknownPort s = ltb 5 (u8At s 0) || (ltb 5 (u8At s 1) || (ltb 5 (u8At s 2) || (ltb 5 (u8At s 3) || ltb 5 (u8At s 4))))
+abbrev pub unknown_port : List ℕ → Bool
+unknown_port s = ltb 5 (u8_at s 0) || (ltb 5 (u8_at s 1) || (ltb 5 (u8_at s 2) || (ltb 5 (u8_at s 3) || ltb 5 (u8_at s 4))))
 
 -- the record from its address on; 2: ended. 50: port.
-unfoldable pub pinsOf : List ℕ → PinsItem
-pinsOf s =
-    pick (ltb (length s) 88) (refusedPins 2) (pick (unknownPort s) (refusedPins 50) (record { number = 0; pins = pinsFields s }))
+unfoldable pub pins_of : List ℕ → PinsItem
+pins_of s =
+    pick (ltb (length s) 88) (refused_pins 2) (pick (unknown_port s) (refused_pins 50) (record { number = 0; pins = pins_fields s }))
 
 -- 3: below base. 2: ended.
-unfoldable pub pinsP : ℕ → ℕ → Prog PinsItem
-pinsP base pointer = recordP base pointer 88 refusedPins pinsOf
+unfoldable pub pins_p : ℕ → ℕ → Prog PinsItem
+pins_p base pointer = record_p base pointer 88 refused_pins pins_of

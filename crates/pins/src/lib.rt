@@ -2,7 +2,7 @@
 #![tactic(auto)]
 
 ghost use Rattle.std.specs.Prelude.{◌≡◌};
-ghost use Rattle.pins.specs.Pins.{noPins, refusedPins};
+ghost use Rattle.pins.specs.Pins.{no_pins, refused_pins};
 
 use types::SdrrMcuPort;
 
@@ -51,9 +51,9 @@ pub struct PinsItem {
     pub pins: SdrrPins,
 }
 
-#[tactic(auto, unfolding(crate::specs::Pins::noPins))]
+#[tactic(auto, unfolding(crate::specs::Pins::no_pins))]
 fn no_pins() -> SdrrPins
-    ensures { result ≡ noPins }
+    ensures { result ≡ no_pins }
 {
     SdrrPins {
         data_port: SdrrMcuPort::None,
@@ -93,7 +93,7 @@ fn no_pins() -> SdrrPins
 }
 
 pub fn refuse(number: u8) -> PinsItem
-    ensures { result ≡ refusedPins number }
+    ensures { result ≡ refused_pins number }
 {
     let pins = no_pins();
     PinsItem { number, pins }

@@ -3,10 +3,10 @@
 
 ghost use Rattle.std.specs.Prelude.{◌≡◌, ◌++◌, ◌≤◌, eqb, length};
 ghost use Rattle.base.specs.Choice.{pick};
-ghost use Rattle.le.specs.Le.{u8At};
-ghost use Rattle.runs.specs.Runs.{eightAt, sixteenAt};
+ghost use Rattle.le.specs.Le.{u8_at};
+ghost use Rattle.runs.specs.Runs.{eight_at, sixteen_at};
 ghost use Rattle.prog.specs.Prog.{run};
-ghost use Rattle.pins.specs.Pins.{eightZeros, pinsFields, unknownPort, pinsOf, pinsP};
+ghost use Rattle.pins.specs.Pins.{eight_zeros, pins_fields, unknown_port, pins_of, pins_p};
 
 use pins::{PinsItem, SdrrPins};
 
@@ -14,14 +14,14 @@ const PINS_SIZE: usize = 88;
 
 // Extended is exactly 1: any other byte gives no second pins.
 fn is_extended(s: &[u8]) -> bool
-    ensures { result ≡ eqb (u8At s.now 63) 1 }
+    ensures { result ≡ eqb (u8_at s.now 63) 1 }
 {
     le::u8_at(s, 63) == 1
 }
 
 // The second data pins; zeros where the record is not extended.
 fn second_data(s: &[u8]) -> [u8; 8]
-    ensures { result ≡ pick (eqb (u8At s.now 63) 1) (eightAt s.now 64) eightZeros }
+    ensures { result ≡ pick (eqb (u8_at s.now 63) 1) (eight_at s.now 64) eight_zeros }
 {
     if is_extended(s) {
         return runs::eight_at(s, 64);
@@ -31,7 +31,7 @@ fn second_data(s: &[u8]) -> [u8; 8]
 
 // The second address pins; zeros where the record is not extended.
 fn second_addr(s: &[u8]) -> [u8; 16]
-    ensures { result ≡ pick (eqb (u8At s.now 63) 1) (sixteenAt s.now 72) (eightZeros ++ eightZeros) }
+    ensures { result ≡ pick (eqb (u8_at s.now 63) 1) (sixteen_at s.now 72) (eight_zeros ++ eight_zeros) }
 {
     if is_extended(s) {
         return runs::sixteen_at(s, 72);
@@ -42,7 +42,7 @@ fn second_addr(s: &[u8]) -> [u8; 16]
 // Whether one of the five ports is none of the known ones.
 fn unknown_port(s: &[u8]) -> bool
     requires { 88 ≤ length s.now }
-    ensures { result ≡ unknownPort s.now }
+    ensures { result ≡ unknown_port s.now }
 {
     base::either(
         5 < s[0],
@@ -53,10 +53,10 @@ fn unknown_port(s: &[u8]) -> bool
     )
 }
 
-#[tactic(auto, unfolding(pins::specs::Pins::pinsFields))]
+#[tactic(auto, unfolding(pins::specs::Pins::pins_fields))]
 fn read_fields(s: &[u8]) -> SdrrPins
     requires { 88 ≤ length s.now }
-    ensures { result ≡ pinsFields s.now }
+    ensures { result ≡ pins_fields s.now }
 {
     SdrrPins {
         data_port: types::port_of(s[0]),
@@ -96,9 +96,9 @@ fn read_fields(s: &[u8]) -> SdrrPins
 }
 
 // The record at the front of data.
-#[tactic(auto, unfolding(pins::specs::Pins::pinsOf))]
+#[tactic(auto, unfolding(pins::specs::Pins::pins_of))]
 pub fn parse_pins(data: &[u8]) -> PinsItem
-    ensures { result ≡ pinsOf «data».now }
+    ensures { result ≡ pins_of «data».now }
 {
     if data.len() < PINS_SIZE {
         return pins::refuse(2);
@@ -112,7 +112,7 @@ pub fn parse_pins(data: &[u8]) -> PinsItem
 
 // The record at a pointer, given to `parse_pins` as the image from there onward.
 pub fn read_pins(image: &[u8], base: u32, ptr: u32) -> PinsItem
-    ensures { result ≡ run (pinsP base ptr) image.now }
+    ensures { result ≡ run (pins_p base ptr) image.now }
 {
     let number = window::pointer_number(image, base, ptr, PINS_SIZE);
     if number != 0 {

@@ -1,7 +1,7 @@
 -- The definitions computed on small images.
 use Rattle.std.specs.Prelude.{ℕ, ◌≡◌, refl, true, false, List, [], ◌∷◌}
-use Rattle.window.specs.Window.{canRead}
-use Rattle.prog.specs.Prog.{Prog, done, fetch, readsOf, aside, answer, run, trace, triedReads, tried, triedShown, endOf, reach}
+use Rattle.window.specs.Window.{can_read}
+use Rattle.prog.specs.Prog.{Prog, done, fetch, reads_of, aside, answer, run, trace, tried_reads, tried, tried_shown, end_of, reach}
 
 -- two bytes at base 100
 abbrev pair : List ℕ
@@ -9,53 +9,53 @@ pair = 7 ∷ 8 ∷ []
 
 -- ---- the window's edges
 
-whole : canRead pair 100 100 2 ≡ true
-unfolding canRead
+whole : can_read pair 100 100 2 ≡ true
+unfolding can_read
 whole = refl
 
-too-long : canRead pair 100 100 3 ≡ false
-unfolding canRead
-too-long = refl
+too_long : can_read pair 100 100 3 ≡ false
+unfolding can_read
+too_long = refl
 
-below-base : canRead pair 100 99 1 ≡ false
-unfolding canRead
-below-base = refl
+below_base : can_read pair 100 99 1 ≡ false
+unfolding can_read
+below_base = refl
 
 -- no byte, just past the last
-none-at-end : canRead pair 100 102 0 ≡ true
-unfolding canRead
-none-at-end = refl
+none_at_end : can_read pair 100 102 0 ≡ true
+unfolding can_read
+none_at_end = refl
 
-none-past-end : canRead pair 100 103 0 ≡ false
-unfolding canRead
-none-past-end = refl
+none_past_end : can_read pair 100 103 0 ≡ false
+unfolding can_read
+none_past_end = refl
 
 -- no byte at 2^32, where the image ends there
-none-at-top : canRead pair 4294967294 4294967296 0 ≡ false
-unfolding canRead
-none-at-top = refl
+none_at_top : can_read pair 4294967294 4294967296 0 ≡ false
+unfolding can_read
+none_at_top = refl
 
 -- ---- a program that tries three reads: one aside, one that succeeds, one that fails
 
 three : Prog ℕ
 three = aside {B = ℕ} (fetch 100 100 2 0 (λ bs. done 1)) (fetch 100 101 1 2 (λ bs. fetch 100 101 2 3 (λ cs. done 4)))
 
-three-run : run three pair ≡ 3
-unfolding three run answer canRead
-three-run = refl
+three_run : run three pair ≡ 3
+unfolding three run answer can_read
+three_run = refl
 
-three-trace : trace three pair ≡ record { offset = 1; size = 1 } ∷ []
-unfolding three trace answer canRead
-three-trace = refl
+three_trace : trace three pair ≡ record { offset = 1; size = 1 } ∷ []
+unfolding three trace answer can_read
+three_trace = refl
 
-three-reach : reach three pair ≡ 2
-unfolding three trace endOf answer canRead
-three-reach = refl
+three_reach : reach three pair ≡ 2
+unfolding three trace end_of answer can_read
+three_reach = refl
 
-three-tried : tried three pair ≡ 3
-unfolding three tried triedReads readsOf answer canRead
-three-tried = refl
+three_tried : tried three pair ≡ 3
+unfolding three tried tried_reads reads_of answer can_read
+three_tried = refl
 
-three-shown : triedShown three pair ≡ 2
-unfolding three triedShown answer canRead
-three-shown = refl
+three_shown : tried_shown three pair ≡ 2
+unfolding three tried_shown answer can_read
+three_shown = refl

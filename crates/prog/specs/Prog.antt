@@ -1,7 +1,7 @@
 -- Read programs over an image, and how they run: what a definition of a reader means.
 use Rattle.std.specs.Prelude.{ℕ, suc, ◌+◌, ◌-◌, ◌≤◌, ◌<◌, max, ◌⊎◌, List, [], ◌∷◌, ltb, take, drop}
 use Rattle.base.specs.Choice.{pick}
-use Rattle.window.specs.Window.{canRead}
+use Rattle.window.specs.Window.{can_read}
 
 -- ---- programs
 
@@ -12,7 +12,7 @@ pub data Answer : Type 0 where
 
 -- reads without a result: each answer decides only which reads follow
 pub data Reads : Type 0 where
-  noMore : Reads
+  no_more : Reads
   look : (base a n : ℕ) → (Answer → Reads) → Reads
 
 -- a program gives its answer;
@@ -35,43 +35,43 @@ abbrev pub also : {A B : Type 0} → Prog A → (A → Prog B) → Prog (A × B)
 also p f = p >>= λ a. f a >>= λ b. done (a, b)
 
 -- the answer, passed on through a function
-abbrev pub mapP : {A B : Type 0} → (A → B) → Prog A → Prog B
-mapP f p = p >>= λ a. done (f a)
+abbrev pub map_p : {A B : Type 0} → (A → B) → Prog A → Prog B
+map_p f p = p >>= λ a. done (f a)
 
 -- what is done with a read's answer: e where it failed, otherwise k with the bytes
-abbrev pub orElse : {A : Type 0} → A → (List ℕ → Prog A) → Answer → Prog A
-orElse e k failed = done e
-orElse e k (got bs) = k bs
+abbrev pub or_else : {A : Type 0} → A → (List ℕ → Prog A) → Answer → Prog A
+or_else e k failed = done e
+or_else e k (got bs) = k bs
 
 -- a read of n bytes at address a; where it fails the answer is e
 abbrev pub fetch : {A : Type 0} → (base a n : ℕ) → A → (List ℕ → Prog A) → Prog A
-fetch base a n e k = read base a n (orElse e k)
+fetch base a n e k = read base a n (or_else e k)
 
 -- a record of n bytes at a pointer. 3: below base. 2: ended.
-abbrev pub recordP : {A : Type 0} → (base pointer n : ℕ) → (refused : ℕ → A) → (List ℕ → A) → Prog A
-recordP base pointer n refused recOf = pick (ltb pointer base) (done (refused 3)) (fetch base pointer n (refused 2) λ s. done (recOf s))
+abbrev pub record_p : {A : Type 0} → (base pointer n : ℕ) → (refused : ℕ → A) → (List ℕ → A) → Prog A
+record_p base pointer n refused rec_of = pick (ltb pointer base) (done (refused 3)) (fetch base pointer n (refused 2) λ s. done (rec_of s))
 
 -- one row of reads after another
-unfoldable pub andThen : Reads → Reads → Reads
-andThen noMore s = s
-andThen (look base a n k) s = look base a n (λ w. andThen (k w) s)
+unfoldable pub and_then : Reads → Reads → Reads
+and_then no_more s = s
+and_then (look base a n k) s = look base a n (λ w. and_then (k w) s)
 
 -- a program's reads, shown or not, its answer dropped
-unfoldable pub readsOf : {A : Type 0} → Prog A → Reads
-readsOf (done a) = noMore
-readsOf (read base a n k) = look base a n (λ w. readsOf (k w))
-readsOf (unshown r p) = andThen r (readsOf p)
+unfoldable pub reads_of : {A : Type 0} → Prog A → Reads
+reads_of (done a) = no_more
+reads_of (read base a n k) = look base a n (λ w. reads_of (k w))
+reads_of (unshown r p) = and_then r (reads_of p)
 
 -- the first program's reads are made and not shown, and its answer is dropped
 -- (01, "Report": the names read in a refused walk)
 abbrev pub aside : {A B : Type 0} → Prog B → Prog A → Prog A
-aside p q = unshown (readsOf p) q
+aside p q = unshown (reads_of p) q
 
 -- ---- a read
 
 -- what a read gives on the image x: n bytes from offset a − base, where it succeeds
 unfoldable pub answer : List ℕ → ℕ → ℕ → ℕ → Answer
-answer x base a n = pick (canRead x base a n) (got (take n (drop (a - base) x))) failed
+answer x base a n = pick (can_read x base a n) (got (take n (drop (a - base) x))) failed
 
 -- ---- a run
 
@@ -99,20 +99,20 @@ trace (read base a n k) x = taken (answer x base a n) (record { offset = a - bas
 trace (unshown r p) x = trace p x
 
 -- how many reads are tried, failed ones too
-unfoldable pub triedReads : Reads → List ℕ → ℕ
-triedReads noMore x = 0
-triedReads (look base a n k) x = suc (triedReads (k (answer x base a n)) x)
+unfoldable pub tried_reads : Reads → List ℕ → ℕ
+tried_reads no_more x = 0
+tried_reads (look base a n k) x = suc (tried_reads (k (answer x base a n)) x)
 
 unfoldable pub tried : {A : Type 0} → Prog A → List ℕ → ℕ
 tried (done a) x = 0
 tried (read base a n k) x = suc (tried (k (answer x base a n)) x)
-tried (unshown r p) x = triedReads r x + tried p x
+tried (unshown r p) x = tried_reads r x + tried p x
 
 -- how many shown reads are tried, failed ones too
-unfoldable pub triedShown : {A : Type 0} → Prog A → List ℕ → ℕ
-triedShown (done a) x = 0
-triedShown (read base a n k) x = suc (triedShown (k (answer x base a n)) x)
-triedShown (unshown r p) x = triedShown p x
+unfoldable pub tried_shown : {A : Type 0} → Prog A → List ℕ → ℕ
+tried_shown (done a) x = 0
+tried_shown (read base a n k) x = suc (tried_shown (k (answer x base a n)) x)
+tried_shown (unshown r p) x = tried_shown p x
 
 -- ---- the bytes taken (01, "Report")
 
@@ -122,10 +122,10 @@ Takes [] i = ⊥
 Takes (s ∷ t) i = ((s.offset ≤ i) × (i < s.offset + s.size)) ⊎ Takes t i
 
 -- just past the last byte taken; a read of no byte, as no opening makes, counts up to its offset
-unfoldable pub endOf : List Span → ℕ
-endOf [] = 0
-endOf (s ∷ t) = max (s.offset + s.size) (endOf t)
+unfoldable pub end_of : List Span → ℕ
+end_of [] = 0
+end_of (s ∷ t) = max (s.offset + s.size) (end_of t)
 
 -- demand 3 coins "reach": it ends after the last byte taken by a shown read
 abbrev pub reach : {A : Type 0} → Prog A → List ℕ → ℕ
-reach p x = endOf (trace p x)
+reach p x = end_of (trace p x)

@@ -3,13 +3,13 @@
 
 ghost use Rattle.std.specs.Prelude.{◌≡◌};
 ghost use Rattle.prog.specs.Prog.{run};
-ghost use Rattle.text.specs.Text.{textP};
-ghost use Rattle.header.specs.Header.{headerP};
-ghost use Rattle.extra_info.specs.ExtraInfo.{extraInfoP};
-ghost use Rattle.pins.specs.Pins.{pinsP};
-ghost use Rattle.sets_source.specs.Looked.{lookP};
-ghost use Rattle.sets_source.specs.Code.{sourceOf};
-ghost use Rattle.records.specs.Code.{recordsOf};
+ghost use Rattle.text.specs.Text.{text_p};
+ghost use Rattle.header.specs.Header.{header_p};
+ghost use Rattle.extra_info.specs.ExtraInfo.{extra_info_p};
+ghost use Rattle.pins.specs.Pins.{pins_p};
+ghost use Rattle.sets_source.specs.Looked.{look_p};
+ghost use Rattle.sets_source.specs.Code.{source_of};
+ghost use Rattle.records.specs.Code.{records_of};
 
 use extra_info::ExtraInfoItem;
 use header::{HeaderAnswer, SdrrInfoHeader};
@@ -35,37 +35,37 @@ pub struct Records {
 }
 
 fn header_at<'a>(w: Window<'a>, info_offset: u32) -> HeaderAnswer
-    ensures { result ≡ run (headerP w.entry.base info_offset) w.entry.image.now }
+    ensures { result ≡ run (header_p w.entry.base info_offset) w.entry.image.now }
 {
     header_record::retrieve_header(w.image, w.base, info_offset)
 }
 
 fn string_at<'a>(w: Window<'a>, ptr: u32) -> Text
-    ensures { result ≡ run (textP w.entry.base ptr) w.entry.image.now }
+    ensures { result ≡ run (text_p w.entry.base ptr) w.entry.image.now }
 {
     strings::read_string_at_ptr(w.image, w.base, ptr)
 }
 
 fn extra_info_at<'a>(w: Window<'a>, ptr: u32, version: FirmwareVersion) -> ExtraInfoItem
-    ensures { result ≡ run (extraInfoP w.entry.base ptr version) w.entry.image.now }
+    ensures { result ≡ run (extra_info_p w.entry.base ptr version) w.entry.image.now }
 {
     extra_info::read_extra_info(w.image, w.base, ptr, version)
 }
 
 fn metadata_at<'a>(w: Window<'a>, header: SdrrInfoHeader) -> SetsSource
-    ensures { result ≡ sourceOf header (run (lookP w.entry.base header) w.entry.image.now) }
+    ensures { result ≡ source_of header (run (look_p w.entry.base header) w.entry.image.now) }
 {
     sets_source::sets_source(w.image, w.base, header)
 }
 
 fn pins_at<'a>(w: Window<'a>, ptr: u32) -> PinsItem
-    ensures { result ≡ run (pinsP w.entry.base ptr) w.entry.image.now }
+    ensures { result ≡ run (pins_p w.entry.base ptr) w.entry.image.now }
 {
     pins_record::read_pins(w.image, w.base, ptr)
 }
 
 pub fn read_header(image: &[u8], flash_base: u32, info_offset: u32) -> HeaderAnswer
-    ensures { result ≡ run (headerP flash_base info_offset) image.now }
+    ensures { result ≡ run (header_p flash_base info_offset) image.now }
 {
     header_at(
         Window {
@@ -76,9 +76,9 @@ pub fn read_header(image: &[u8], flash_base: u32, info_offset: u32) -> HeaderAns
     )
 }
 
-#[tactic(auto, unfolding(crate::specs::Code::recordsOf))]
+#[tactic(auto, unfolding(crate::specs::Code::records_of))]
 pub fn read_records(image: &[u8], base: u32, header: SdrrInfoHeader) -> Records
-    ensures { result ≡ recordsOf base header image.now }
+    ensures { result ≡ records_of base header image.now }
 {
     let w = Window { image, base };
     Records {

@@ -3,24 +3,24 @@ use Rattle.std.specs.Prelude.{ℕ, List, length}
 use Rattle.base.specs.Choice.{pick}
 use Rattle.text.specs.declared.Text.{Text}
 use Rattle.judge_walk.specs.declared.Walked.{Walked}
-use Rattle.walk.specs.Walk.{RomSet, Part, stop, found, romsOf}
-use Rattle.walk.specs.Rows.{setRows, romRows, shortSets, shortRoms, overwritten}
-pub use Rattle.judge_walk.specs.Code.{refusedWalk}
+use Rattle.walk.specs.Walk.{RomSet, Part, stop, found, roms_of}
+use Rattle.walk.specs.Rows.{set_rows_of, rom_rows_of, short_sets, short_roms, overwritten}
+pub use Rattle.judge_walk.specs.Code.{refused_walk}
 
 -- "Walk": only a walk otherwise accepted gives 44, then 45. The lengths of the lent rows are in words.
-unfoldable pub walkReply : Part (List RomSet) → ℕ → ℕ → Walked
-walkReply (stop n passed) setWords romWords = refusedWalk n
-walkReply (found ss) setWords romWords =
-    pick (shortSets ss setWords) (refusedWalk 44)
-    (pick (shortRoms ss romWords) (refusedWalk 45) (record { number = 0; rom_count = length (romsOf ss) }))
+unfoldable pub walk_reply : Part (List RomSet) → ℕ → ℕ → Walked
+walk_reply (stop n passed) set_words rom_words = refused_walk n
+walk_reply (found ss) set_words rom_words =
+    pick (short_sets ss set_words) (refused_walk 44)
+    (pick (short_roms ss rom_words) (refused_walk 45) (record { number = 0; rom_count = length (roms_of ss) }))
 
 -- a refusal changes no word, an acceptance only the rows it lists
-unfoldable pub walkSetRows : Part (List RomSet) → ℕ → List ℕ → List ℕ
-walkSetRows (stop n passed) romWords lent = lent
-walkSetRows (found ss) romWords lent =
-    pick (shortSets ss (length lent)) lent (pick (shortRoms ss romWords) lent (overwritten (setRows ss) lent))
+unfoldable pub walk_set_rows : Part (List RomSet) → ℕ → List ℕ → List ℕ
+walk_set_rows (stop n passed) rom_words lent = lent
+walk_set_rows (found ss) rom_words lent =
+    pick (short_sets ss (length lent)) lent (pick (short_roms ss rom_words) lent (overwritten (set_rows_of ss) lent))
 
-unfoldable pub walkRomRows : Part (List RomSet) → List Text → ℕ → List ℕ → List ℕ
-walkRomRows (stop n passed) names setWords lent = lent
-walkRomRows (found ss) names setWords lent =
-    pick (shortSets ss setWords) lent (pick (shortRoms ss (length lent)) lent (overwritten (romRows (romsOf ss) names) lent))
+unfoldable pub walk_rom_rows : Part (List RomSet) → List Text → ℕ → List ℕ → List ℕ
+walk_rom_rows (stop n passed) names set_words lent = lent
+walk_rom_rows (found ss) names set_words lent =
+    pick (short_sets ss set_words) lent (pick (short_roms ss (length lent)) lent (overwritten (rom_rows_of (roms_of ss) names) lent))

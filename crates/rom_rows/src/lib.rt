@@ -3,15 +3,15 @@
 
 ghost use Rattle.std.specs.Prelude.{◌≡◌, length};
 ghost use Rattle.prog.specs.Prog.{run};
-ghost use Rattle.walk.specs.Walk.{walkP};
-ghost use Rattle.walk.specs.Names.{walkNamesP};
-ghost use Rattle.rom_rows.specs.Reply.{refusedWalk, walkReply, walkSetRows, walkRomRows};
+ghost use Rattle.walk.specs.Walk.{walk_p};
+ghost use Rattle.walk.specs.Names.{walk_names_p};
+ghost use Rattle.rom_rows.specs.Reply.{refused_walk, walk_reply, walk_set_rows, walk_rom_rows};
 
 use header::SdrrInfoFields;
 use judge_walk::Walked;
 
 fn refuse(number: u8) -> Walked
-    ensures { result ≡ refusedWalk number }
+    ensures { result ≡ refused_walk number }
 {
     Walked {
         number,
@@ -29,9 +29,9 @@ pub fn read_rom_sets(
     set_rows: &mut [u32],
     rom_rows: &mut [u32],
 ) -> Walked
-    ensures reply { result ≡ walkReply (run (walkP base fields count ptr) image.now) (length set_rows.old) (length rom_rows.old) }
-    ensures sets { set_rows.new ≡ walkSetRows (run (walkP base fields count ptr) image.now) (length rom_rows.old) set_rows.old }
-    ensures roms { rom_rows.new ≡ walkRomRows (run (walkP base fields count ptr) image.now) (run (walkNamesP base (run (walkP base fields count ptr) image.now)) image.now) (length set_rows.old) rom_rows.old }
+    ensures reply { result ≡ walk_reply (run (walk_p base fields count ptr) image.now) (length set_rows.old) (length rom_rows.old) }
+    ensures sets { set_rows.new ≡ walk_set_rows (run (walk_p base fields count ptr) image.now) (length rom_rows.old) set_rows.old }
+    ensures roms { rom_rows.new ≡ walk_rom_rows (run (walk_p base fields count ptr) image.now) (run (walk_names_p base (run (walk_p base fields count ptr) image.now)) image.now) (length set_rows.old) rom_rows.old }
 {
     let judged = judge_walk::judge_rom_sets(image, base, fields, count, ptr);
     if judged.number != 0 {

@@ -3,7 +3,7 @@
 
 ghost use Rattle.std.specs.Prelude.{◌≡◌};
 ghost use Rattle.base.specs.Choice.{pick};
-ghost use Rattle.rom_rules.specs.Rules.{rules, unsupported, rulesOf, mask, controlBits, is28C16, mangleNumber};
+ghost use Rattle.rom_rules.specs.Rules.{rules, unsupported, rules_of, mask, control_bits, is_28c16, mangle_number};
 
 use types::SdrrRomType;
 
@@ -68,9 +68,9 @@ fn unsupported() -> TypeRules
 }
 
 // The mask; the input bits of the pins CS1, CS2, CS3, OE, CE; the input bits that the levels CS1, CS2, CS3 raise.
-#[tactic(auto, unfolding(crate::specs::Rules::rulesOf))]
+#[tactic(auto, unfolding(crate::specs::Rules::rules_of))]
 pub fn rules_of(rom_type: SdrrRomType) -> TypeRules
-    ensures { result ≡ rulesOf rom_type }
+    ensures { result ≡ rules_of rom_type }
 {
     match rom_type {
         SdrrRomType::Rom2364 => rules(0x1FFF, 13, 255, 255, 255, 255, 13, 255, 255),
@@ -103,9 +103,9 @@ fn mask(rom_type: SdrrRomType) -> u32
     r.mask
 }
 
-#[tactic(auto, unfolding(type_numbers::specs::TypeNumbers::romTypeNumber))]
+#[tactic(auto, unfolding(type_numbers::specs::TypeNumbers::rom_type_number))]
 fn is_28c16(rom_type: SdrrRomType) -> bool
-    ensures { result ≡ is28C16 rom_type }
+    ensures { result ≡ is_28c16 rom_type }
 {
     match rom_type {
         SdrrRomType::Rom28C16 => true,
@@ -115,7 +115,7 @@ fn is_28c16(rom_type: SdrrRomType) -> bool
 
 // The input bits of the control pins, in the order in which they are written: CS1, CS2, CS3, OE, CE; 255: none.
 pub fn control_bits(rom_type: SdrrRomType) -> [u8; 5]
-    ensures { result ≡ controlBits rom_type }
+    ensures { result ≡ control_bits rom_type }
 {
     let r = rules_of(rom_type);
     [r.cs1, r.cs2, r.cs3, r.oe, r.ce]
@@ -128,9 +128,9 @@ fn pick_num(c: bool, a: u8, b: u8) -> u8
 }
 
 // The map's number n first, then 77, then 78.
-#[tactic(auto, unfolding(crate::specs::Rules::mangleNumber))]
+#[tactic(auto, unfolding(crate::specs::Rules::mangle_number))]
 pub fn mangle_number(n: u8, rom_type: SdrrRomType, address: u32) -> u8
-    ensures { result ≡ mangleNumber n rom_type address }
+    ensures { result ≡ mangle_number n rom_type address }
 {
     let above = mask(rom_type) < address;
     let c16 = is_28c16(rom_type);

@@ -2,20 +2,20 @@
 #![tactic(auto)]
 
 ghost use Rattle.std.specs.Prelude.{◌≡◌};
-ghost use Rattle.types.specs.Types.{romTypeOf};
-ghost use Rattle.rows.specs.LentRows.{hasRomRow, typeWord, badRomRow};
+ghost use Rattle.types.specs.Types.{rom_type_of};
+ghost use Rattle.rows.specs.LentRows.{has_rom_row, type_word, bad_rom_row};
 
 use rows::RomWord;
 use types::SdrrRomType;
 
 fn has_rom_row(rom_rows: &[u32], row: u32) -> bool
-    ensures { result ≡ hasRomRow rom_rows.now row }
+    ensures { result ≡ has_rom_row rom_rows.now row }
 {
     rows::ROM_WORDS * (row as usize) + rows::ROM_WORDS <= rom_rows.len()
 }
 
 pub fn is_bad_rom_row(rom_rows: &[u32], row: u32) -> bool
-    ensures { result ≡ badRomRow rom_rows.now row }
+    ensures { result ≡ bad_rom_row rom_rows.now row }
 {
     base::either(
         !has_rom_row(rom_rows, row),
@@ -24,7 +24,7 @@ pub fn is_bad_rom_row(rom_rows: &[u32], row: u32) -> bool
 }
 
 pub fn rom_type(rom_rows: &[u32], row: u32) -> SdrrRomType
-    ensures { result ≡ romTypeOf (typeWord rom_rows.now row) }
+    ensures { result ≡ rom_type_of (type_word rom_rows.now row) }
 {
     types::rom_type_of(rows::rom_word(rom_rows, row, RomWord::Type))
 }

@@ -5,105 +5,105 @@ use Rattle.rows.specs.declared.SetWord.{SetWord}
 use Rattle.rows.specs.declared.RomWord.{RomWord}
 
 -- a set row is eight words; so is a ROM row, from wish 3 of document 02 on
-abbrev pub setRowLength : ℕ
-setRowLength = 8
+abbrev pub set_row_length : ℕ
+set_row_length = 8
 
-abbrev pub romRowLength : ℕ
-romRowLength = 8
+abbrev pub rom_row_length : ℕ
+rom_row_length = 8
 
 -- where each word stands in its row
-abbrev pub setPlace : SetWord → ℕ
-setPlace SetWord.DataPointer = 0
-setPlace SetWord.Size = 1
-setPlace SetWord.FirstRom = 2
-setPlace SetWord.RomCount = 3
-setPlace SetWord.Serve = 4
-setPlace SetWord.State = 5
-setPlace SetWord.Config = 6
-setPlace SetWord.Overrides = 7
+abbrev pub set_place : SetWord → ℕ
+set_place SetWord.DataPointer = 0
+set_place SetWord.Size = 1
+set_place SetWord.FirstRom = 2
+set_place SetWord.RomCount = 3
+set_place SetWord.Serve = 4
+set_place SetWord.State = 5
+set_place SetWord.Config = 6
+set_place SetWord.Overrides = 7
 
-abbrev pub romPlace : RomWord → ℕ
-romPlace RomWord.Type = 0
-romPlace RomWord.Cs1 = 1
-romPlace RomWord.Cs2 = 2
-romPlace RomWord.Cs3 = 3
-romPlace RomWord.NameOffset = 4
-romPlace RomWord.NameLength = 5
-romPlace RomWord.NameReason = 6
-romPlace RomWord.NameWidth = 7
+abbrev pub rom_place : RomWord → ℕ
+rom_place RomWord.Type = 0
+rom_place RomWord.Cs1 = 1
+rom_place RomWord.Cs2 = 2
+rom_place RomWord.Cs3 = 3
+rom_place RomWord.NameOffset = 4
+rom_place RomWord.NameLength = 5
+rom_place RomWord.NameReason = 6
+rom_place RomWord.NameWidth = 7
 
 -- a word of a row; past the end 0
-abbrev pub setWord : List ℕ → ℕ → SetWord → ℕ
-setWord sets i word = get_or sets (setRowLength * i + setPlace word) 0
+abbrev pub set_word : List ℕ → ℕ → SetWord → ℕ
+set_word sets i word = get_or sets (set_row_length * i + set_place word) 0
 
-abbrev pub romWord : List ℕ → ℕ → RomWord → ℕ
-romWord roms row word = get_or roms (romRowLength * row + romPlace word) 0
+abbrev pub rom_word : List ℕ → ℕ → RomWord → ℕ
+rom_word roms row word = get_or roms (rom_row_length * row + rom_place word) 0
 
 -- ---- the words of a set row, by name
 
-abbrev pub dataPointer : List ℕ → ℕ → ℕ
-dataPointer sets i = setWord sets i SetWord.DataPointer
+abbrev pub data_pointer : List ℕ → ℕ → ℕ
+data_pointer sets i = set_word sets i SetWord.DataPointer
 
-abbrev pub sizeOf : List ℕ → ℕ → ℕ
-sizeOf sets i = setWord sets i SetWord.Size
+abbrev pub size_of : List ℕ → ℕ → ℕ
+size_of sets i = set_word sets i SetWord.Size
 
-abbrev pub firstRom : List ℕ → ℕ → ℕ
-firstRom sets i = setWord sets i SetWord.FirstRom
+abbrev pub first_rom : List ℕ → ℕ → ℕ
+first_rom sets i = set_word sets i SetWord.FirstRom
 
-abbrev pub romCount : List ℕ → ℕ → ℕ
-romCount sets i = setWord sets i SetWord.RomCount
+abbrev pub rom_count : List ℕ → ℕ → ℕ
+rom_count sets i = set_word sets i SetWord.RomCount
 
-abbrev pub serveOf : List ℕ → ℕ → ℕ
-serveOf sets i = setWord sets i SetWord.Serve
+abbrev pub serve_of : List ℕ → ℕ → ℕ
+serve_of sets i = set_word sets i SetWord.Serve
 
-abbrev pub stateOf : List ℕ → ℕ → ℕ
-stateOf sets i = setWord sets i SetWord.State
+abbrev pub state_of : List ℕ → ℕ → ℕ
+state_of sets i = set_word sets i SetWord.State
 
-abbrev pub configAddress : List ℕ → ℕ → ℕ
-configAddress sets i = setWord sets i SetWord.Config
+abbrev pub config_address : List ℕ → ℕ → ℕ
+config_address sets i = set_word sets i SetWord.Config
 
-abbrev pub overridesAddress : List ℕ → ℕ → ℕ
-overridesAddress sets i = setWord sets i SetWord.Overrides
+abbrev pub overrides_address : List ℕ → ℕ → ℕ
+overrides_address sets i = set_word sets i SetWord.Overrides
 
 -- ---- the words of a ROM row, by name
 
-abbrev pub typeWord : List ℕ → ℕ → ℕ
-typeWord roms row = romWord roms row RomWord.Type
+abbrev pub type_word : List ℕ → ℕ → ℕ
+type_word roms row = rom_word roms row RomWord.Type
 
-abbrev pub cs1State : List ℕ → ℕ → ℕ
-cs1State roms row = romWord roms row RomWord.Cs1
+abbrev pub cs1_state : List ℕ → ℕ → ℕ
+cs1_state roms row = rom_word roms row RomWord.Cs1
 
-abbrev pub cs2State : List ℕ → ℕ → ℕ
-cs2State roms row = romWord roms row RomWord.Cs2
+abbrev pub cs2_state : List ℕ → ℕ → ℕ
+cs2_state roms row = rom_word roms row RomWord.Cs2
 
-abbrev pub cs3State : List ℕ → ℕ → ℕ
-cs3State roms row = romWord roms row RomWord.Cs3
+abbrev pub cs3_state : List ℕ → ℕ → ℕ
+cs3_state roms row = rom_word roms row RomWord.Cs3
 
-abbrev pub nameOffset : List ℕ → ℕ → ℕ
-nameOffset roms row = romWord roms row RomWord.NameOffset
+abbrev pub name_offset : List ℕ → ℕ → ℕ
+name_offset roms row = rom_word roms row RomWord.NameOffset
 
-abbrev pub nameLength : List ℕ → ℕ → ℕ
-nameLength roms row = romWord roms row RomWord.NameLength
+abbrev pub name_length : List ℕ → ℕ → ℕ
+name_length roms row = rom_word roms row RomWord.NameLength
 
-abbrev pub nameReason : List ℕ → ℕ → ℕ
-nameReason roms row = romWord roms row RomWord.NameReason
+abbrev pub name_reason : List ℕ → ℕ → ℕ
+name_reason roms row = rom_word roms row RomWord.NameReason
 
-abbrev pub nameWidth : List ℕ → ℕ → ℕ
-nameWidth roms row = romWord roms row RomWord.NameWidth
+abbrev pub name_width : List ℕ → ℕ → ℕ
+name_width roms row = rom_word roms row RomWord.NameWidth
 
 -- ---- which rows a call may use
 
 -- the whole row is among those lent
-abbrev pub hasSetRow : List ℕ → ℕ → Bool
-hasSetRow sets i = leb (setRowLength * i + setRowLength) (length sets)
+abbrev pub has_set_row : List ℕ → ℕ → Bool
+has_set_row sets i = leb (set_row_length * i + set_row_length) (length sets)
 
-abbrev pub hasRomRow : List ℕ → ℕ → Bool
-hasRomRow roms row = leb (romRowLength * row + romRowLength) (length roms)
+abbrev pub has_rom_row : List ℕ → ℕ → Bool
+has_rom_row roms row = leb (rom_row_length * row + rom_row_length) (length roms)
 
 -- a needed ROM row isn't among those lent, or its type is above 33
-abbrev pub badRomRow : List ℕ → ℕ → Bool
-badRomRow roms row = not (hasRomRow roms row) || ltb 33 (typeWord roms row)
+abbrev pub bad_rom_row : List ℕ → ℕ → Bool
+bad_rom_row roms row = not (has_rom_row roms row) || ltb 33 (type_word roms row)
 
 -- 80: no such set. 4: its row. 0: neither.
-abbrev pub setNumber : (served : ℕ) → List ℕ → ℕ → ℕ
-setNumber served sets i = pick (leb served i) 80 (pick (not (hasSetRow sets i)) 4 0)
+abbrev pub set_number : (served : ℕ) → List ℕ → ℕ → ℕ
+set_number served sets i = pick (leb served i) 80 (pick (not (has_set_row sets i)) 4 0)

@@ -2,7 +2,7 @@
 #![tactic(auto)]
 
 ghost use Rattle.std.specs.Prelude.{◌≡◌, ◌+◌, ◌*◌, get_or};
-ghost use Rattle.rows.specs.LentRows.{hasSetRow, setPlace, romPlace, setWord, romWord};
+ghost use Rattle.rows.specs.LentRows.{has_set_row, set_place, rom_place, set_word, rom_word};
 
 // How many words a set row has.
 pub const SET_WORDS: usize = 8;
@@ -38,7 +38,7 @@ pub enum RomWord {
 
 // The place in its row.
 fn set_place(word: SetWord) -> u8
-    ensures { result ≡ setPlace word }
+    ensures { result ≡ set_place word }
 {
     match word {
         SetWord::DataPointer => 0,
@@ -53,7 +53,7 @@ fn set_place(word: SetWord) -> u8
 }
 
 fn rom_place(word: RomWord) -> u8
-    ensures { result ≡ romPlace word }
+    ensures { result ≡ rom_place word }
 {
     match word {
         RomWord::Type => 0,
@@ -78,13 +78,13 @@ fn word_at(words: &[u32], at: usize) -> u32
 }
 
 pub fn has_set_row(set_rows: &[u32], set: u32) -> bool
-    ensures { result ≡ hasSetRow set_rows.now set }
+    ensures { result ≡ has_set_row set_rows.now set }
 {
     SET_WORDS * (set as usize) + SET_WORDS <= set_rows.len()
 }
 
 pub fn set_word(set_rows: &[u32], set: u32, word: SetWord) -> u32
-    ensures { result ≡ setWord set_rows.now set word }
+    ensures { result ≡ set_word set_rows.now set word }
 {
     word_at(
         set_rows,
@@ -93,7 +93,7 @@ pub fn set_word(set_rows: &[u32], set: u32, word: SetWord) -> u32
 }
 
 pub fn rom_word(rom_rows: &[u32], row: u32, word: RomWord) -> u32
-    ensures { result ≡ romWord rom_rows.now row word }
+    ensures { result ≡ rom_word rom_rows.now row word }
 {
     word_at(
         rom_rows,

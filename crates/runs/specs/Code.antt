@@ -3,22 +3,22 @@
 use Rattle.std.specs.Prelude.{ℕ, zero, suc, ◌≡◌, List, [], ◌∷◌, ◌++◌, drop}
 use Rattle.std.proofs.Math.Nat.{add-zero}
 use Rattle.std.proofs.Common.{add_assoc, get_or-drop}
-use Rattle.le.specs.Le.{u8At}
-use Rattle.runs.specs.Runs.{fourAt, eightAt, sixteenAt}
+use Rattle.le.specs.Le.{u8_at}
+use Rattle.runs.specs.Runs.{four_at, eight_at, sixteen_at}
 
-unfoldable pub firstBytes : List ℕ → ℕ → List ℕ
-firstBytes s zero = []
-firstBytes s (suc n) = firstBytes s n ++ (u8At s n ∷ [])
+unfoldable pub first_bytes : List ℕ → ℕ → List ℕ
+first_bytes s zero = []
+first_bytes s (suc n) = first_bytes s n ++ (u8_at s n ∷ [])
 
 module _ (s : List ℕ) (at : ℕ) where
-  pub first-four : firstBytes (drop at s) 4 ≡ fourAt s at
-  unfolding firstBytes
-  first-four = simp (get_or-drop, add-zero)
+  pub first_four : first_bytes (drop at s) 4 ≡ four_at s at
+  unfolding first_bytes
+  first_four = simp (get_or-drop, add-zero)
 
-  pub first-eight : firstBytes (drop at s) 8 ≡ eightAt s at
-  unfolding firstBytes
-  first-eight = simp (get_or-drop, add-zero)
+  pub first_eight : first_bytes (drop at s) 8 ≡ eight_at s at
+  unfolding first_bytes
+  first_eight = simp (get_or-drop, add-zero)
 
-  pub first-sixteen : firstBytes (drop at s) 16 ≡ sixteenAt s at
-  unfolding firstBytes
-  first-sixteen = simp (get_or-drop, add-zero, add_assoc)
+  pub first_sixteen : first_bytes (drop at s) 16 ≡ sixteen_at s at
+  unfolding first_bytes
+  first_sixteen = simp (get_or-drop, add-zero, add_assoc)

@@ -2,8 +2,8 @@
 #![tactic(auto)]
 
 ghost use Rattle.std.specs.Prelude.{◌≡◌, length, drop};
-ghost use Rattle.runs.specs.Runs.{fourAt, eightAt, sixteenAt};
-ghost use Rattle.runs.specs.Code.{firstBytes};
+ghost use Rattle.runs.specs.Runs.{four_at, eight_at, sixteen_at};
+ghost use Rattle.runs.specs.Code.{first_bytes};
 
 // The part from at onward; past the end of s nothing.
 fn onward(s: &[u8], at: usize) -> &[u8]
@@ -17,7 +17,7 @@ fn onward(s: &[u8], at: usize) -> &[u8]
 
 // Fills to with the first bytes of s.
 fn fill(to: &mut [u8], s: &[u8])
-    ensures { to.new ≡ firstBytes s.now (length to.old) }
+    ensures { to.new ≡ first_bytes s.now (length to.old) }
 {
     let mut i = 0;
     while i < to.len() {
@@ -27,7 +27,7 @@ fn fill(to: &mut [u8], s: &[u8])
 }
 
 pub fn four_at(s: &[u8], at: usize) -> [u8; 4]
-    ensures { result ≡ fourAt s.now at }
+    ensures { result ≡ four_at s.now at }
 {
     let mut run = [0; 4];
     fill(&mut run, onward(s, at));
@@ -35,7 +35,7 @@ pub fn four_at(s: &[u8], at: usize) -> [u8; 4]
 }
 
 pub fn eight_at(s: &[u8], at: usize) -> [u8; 8]
-    ensures { result ≡ eightAt s.now at }
+    ensures { result ≡ eight_at s.now at }
 {
     let mut run = [0; 8];
     fill(&mut run, onward(s, at));
@@ -43,7 +43,7 @@ pub fn eight_at(s: &[u8], at: usize) -> [u8; 8]
 }
 
 pub fn sixteen_at(s: &[u8], at: usize) -> [u8; 16]
-    ensures { result ≡ sixteenAt s.now at }
+    ensures { result ≡ sixteen_at s.now at }
 {
     let mut run = [0; 16];
     fill(&mut run, onward(s, at));

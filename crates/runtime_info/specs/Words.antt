@@ -14,8 +14,8 @@ bit true = 1
 bit false = 0
 
 -- head: image, set, counting, count, its address, table, size
-unfoldable pub headWords : SdrrRuntimeInfoHeader → List ℕ
-headWords h =
+unfoldable pub head_words : SdrrRuntimeInfoHeader → List ℕ
+head_words h =
     h.image_sel ∷ h.rom_set_index ∷ h.count_rom_access ∷ h.access_count ∷ h.access_count_address ∷ h.rom_table_ptr ∷ h.rom_table_size ∷ []
 
 -- a group: 1 and its fields, or zeros throughout where it is absent
@@ -37,16 +37,16 @@ words067 (GroupV067.Present v) = 1 ∷ v.peri_en ∷ v.limp_mode ∷ []
 words067 GroupV067.Absent = 0 ∷ 0 ∷ 0 ∷ []
 
 -- an accepted record: its head, then the groups in order; 7 + 8 + 3 + 4 + 3 words
-unfoldable pub runtimeWords : SdrrRuntimeInfoHeader → RuntimeVersionedFields → List ℕ
-runtimeWords h f =
-    headWords h ++ (words060 f.v0_6_0 ++ (words062 f.v0_6_2 ++ (words063 f.v0_6_3 ++ words067 f.v0_6_7)))
+unfoldable pub runtime_words : SdrrRuntimeInfoHeader → RuntimeVersionedFields → List ℕ
+runtime_words h f =
+    head_words h ++ (words060 f.v0_6_0 ++ (words062 f.v0_6_2 ++ (words063 f.v0_6_3 ++ words067 f.v0_6_7)))
 
 -- 0 accepted, or the refusal's number
-abbrev pub numberOf : SdrrRuntimeInfo → ℕ
-numberOf (SdrrRuntimeInfo.Parsed h f) = 0
-numberOf (SdrrRuntimeInfo.Refused n) = n
+abbrev pub number_of : SdrrRuntimeInfo → ℕ
+number_of (SdrrRuntimeInfo.Parsed h f) = 0
+number_of (SdrrRuntimeInfo.Refused n) = n
 
 -- what the lent words hold afterwards: a refusal changes none
-abbrev pub wordsAfter : SdrrRuntimeInfo → List ℕ → List ℕ
-wordsAfter (SdrrRuntimeInfo.Parsed h f) before = runtimeWords h f
-wordsAfter (SdrrRuntimeInfo.Refused n) before = before
+abbrev pub words_after : SdrrRuntimeInfo → List ℕ → List ℕ
+words_after (SdrrRuntimeInfo.Parsed h f) before = runtime_words h f
+words_after (SdrrRuntimeInfo.Refused n) before = before

@@ -2,7 +2,7 @@
 #![tactic(auto)]
 
 ghost use Rattle.std.specs.Prelude.{◌≡◌, ◌+◌, ◌≤◌};
-ghost use Rattle.runtime_info.specs.Runtime.{headOf, runtimeHeader, reaches, isVoltage, isServeMode, isBitMode, isLimpMode, present060, present062, present067, group060Of, group062Of, group063Of, group067Of, runtimeFields, runtimeOf};
+ghost use Rattle.runtime_info.specs.Runtime.{head_of, runtime_header, reaches, is_voltage, is_serve_mode, is_bit_mode, is_limp_mode, present060, present062, present067, group060_of, group062_of, group063_of, group067_of, runtime_fields, runtime_of};
 
 #[derive(Clone, Copy)]
 pub struct SdrrRuntimeInfoHeader {
@@ -90,10 +90,10 @@ pub enum SdrrRuntimeInfo {
     Refused(u8),
 }
 
-#[tactic(auto, unfolding(crate::specs::Runtime::headOf))]
+#[tactic(auto, unfolding(crate::specs::Runtime::head_of))]
 fn read_head(data: &[u8], ram_base: u32) -> SdrrRuntimeInfoHeader
     requires { ram_base + 8 ≤ 4294967295 }
-    ensures { result ≡ headOf «data».now ram_base }
+    ensures { result ≡ head_of «data».now ram_base }
 {
     SdrrRuntimeInfoHeader {
         image_sel: le::u8_at(data, 5),
@@ -106,9 +106,9 @@ fn read_head(data: &[u8], ram_base: u32) -> SdrrRuntimeInfoHeader
     }
 }
 
-#[tactic(auto, unfolding(crate::specs::Runtime::runtimeHeader))]
+#[tactic(auto, unfolding(crate::specs::Runtime::runtime_header))]
 pub(crate) fn parse_and_validate_runtime_info(data: &[u8], ram_base: u32) -> RuntimeHeader
-    ensures { result ≡ runtimeHeader «data».now ram_base }
+    ensures { result ≡ runtime_header «data».now ram_base }
 {
     if data.len() < 20 {
         return RuntimeHeader::Refused(2);
@@ -134,25 +134,25 @@ fn reaches_end(data: &[u8], end: usize) -> bool
 }
 
 fn known_fire_vreg(b: u8) -> bool
-    ensures { result ≡ isVoltage b }
+    ensures { result ≡ is_voltage b }
 {
     base::either(b <= 31, base::either(b == 254, b == 255))
 }
 
 fn known_fire_serve_mode(b: u8) -> bool
-    ensures { result ≡ isServeMode b }
+    ensures { result ≡ is_serve_mode b }
 {
     b <= 1
 }
 
 fn known_bit_mode(b: u8) -> bool
-    ensures { result ≡ isBitMode b }
+    ensures { result ≡ is_bit_mode b }
 {
     base::either(b == 1, b == 2)
 }
 
 fn known_limp_mode(b: u8) -> bool
-    ensures { result ≡ isLimpMode b }
+    ensures { result ≡ is_limp_mode b }
 {
     b <= 3
 }
@@ -164,9 +164,9 @@ fn has_v060(data: &[u8]) -> bool
     base::both(reaches_end(data, 34), known_fire_vreg(le::u8_at(data, 27)))
 }
 
-#[tactic(auto, unfolding(crate::specs::Runtime::group060Of))]
+#[tactic(auto, unfolding(crate::specs::Runtime::group060_of))]
 fn group_v060(data: &[u8]) -> GroupV060
-    ensures { result ≡ group060Of «data».now }
+    ensures { result ≡ group060_of «data».now }
 {
     if !has_v060(data) {
         return GroupV060::Absent;
@@ -191,9 +191,9 @@ fn has_v062(data: &[u8]) -> bool
     base::both(reaches_end(data, 36), base::both(serve, bits))
 }
 
-#[tactic(auto, unfolding(crate::specs::Runtime::group062Of))]
+#[tactic(auto, unfolding(crate::specs::Runtime::group062_of))]
 fn group_v062(data: &[u8]) -> GroupV062
-    ensures { result ≡ group062Of «data».now }
+    ensures { result ≡ group062_of «data».now }
 {
     if !has_v062(data) {
         return GroupV062::Absent;
@@ -204,9 +204,9 @@ fn group_v062(data: &[u8]) -> GroupV062
     })
 }
 
-#[tactic(auto, unfolding(crate::specs::Runtime::group063Of))]
+#[tactic(auto, unfolding(crate::specs::Runtime::group063_of))]
 fn group_v063(data: &[u8]) -> GroupV063
-    ensures { result ≡ group063Of «data».now }
+    ensures { result ≡ group063_of «data».now }
 {
     if !reaches_end(data, 39) {
         return GroupV063::Absent;
@@ -225,9 +225,9 @@ fn has_v067(data: &[u8]) -> bool
     base::both(reaches_end(data, 57), known_limp_mode(le::u8_at(data, 56)))
 }
 
-#[tactic(auto, unfolding(crate::specs::Runtime::group067Of))]
+#[tactic(auto, unfolding(crate::specs::Runtime::group067_of))]
 fn group_v067(data: &[u8]) -> GroupV067
-    ensures { result ≡ group067Of «data».now }
+    ensures { result ≡ group067_of «data».now }
 {
     if !has_v067(data) {
         return GroupV067::Absent;
@@ -240,7 +240,7 @@ fn group_v067(data: &[u8]) -> GroupV067
 
 // Each group stands for itself: one that is absent takes no other with it.
 pub fn parse_runtime_versioned_fields(data: &[u8]) -> RuntimeVersionedFields
-    ensures { result ≡ runtimeFields «data».now }
+    ensures { result ≡ runtime_fields «data».now }
 {
     RuntimeVersionedFields {
         v0_6_0: group_v060(data),
@@ -251,7 +251,7 @@ pub fn parse_runtime_versioned_fields(data: &[u8]) -> RuntimeVersionedFields
 }
 
 pub fn parse_ram(data: &[u8], ram_base: u32) -> SdrrRuntimeInfo
-    ensures { result ≡ runtimeOf «data».now ram_base }
+    ensures { result ≡ runtime_of «data».now ram_base }
 {
     match parse_and_validate_runtime_info(data, ram_base) {
         RuntimeHeader::Refused(number) => SdrrRuntimeInfo::Refused(number),

@@ -2,7 +2,7 @@
 #![tactic(auto)]
 
 ghost use Rattle.std.specs.Prelude.{◌≡◌};
-ghost use Rattle.runtime_info.specs.Words.{bit, headWords, words060, words062, words063, words067, runtimeWords};
+ghost use Rattle.runtime_info.specs.Words.{bit, head_words, words060, words062, words063, words067, runtime_words};
 
 use runtime_info::{
     GroupV060, GroupV062, GroupV063, GroupV067, RuntimeVersionedFields, SdrrRuntimeInfoHeader,
@@ -14,9 +14,9 @@ fn bit_of(b: bool) -> u32
     if b { 1 } else { 0 }
 }
 
-#[tactic(auto, unfolding(runtime_info::specs::Words::headWords))]
+#[tactic(auto, unfolding(runtime_info::specs::Words::head_words))]
 fn head_words(h: SdrrRuntimeInfoHeader) -> [u32; 7]
-    ensures { result ≡ headWords h }
+    ensures { result ≡ head_words h }
 {
     [
         h.image_sel as u32,
@@ -84,7 +84,7 @@ fn v067_words(g: GroupV067) -> [u32; 3]
 }
 
 pub fn runtime_words(h: SdrrRuntimeInfoHeader, f: RuntimeVersionedFields) -> [u32; 25]
-    ensures { result ≡ runtimeWords h f }
+    ensures { result ≡ runtime_words h f }
 {
     let v060 = f.v0_6_0;
     let v062 = f.v0_6_2;

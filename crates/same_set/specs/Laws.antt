@@ -11,177 +11,177 @@ use Rattle.std.proofs.Math.ListN.{length, drop}
 use Rattle.std.proofs.Math.Seq.{drop-drop}
 use borrow.Author.Tests.{ltb-true, ltb-false, lt-ltb, le-ltb, le-leb, lt-leb, eq-eqb, ne_eqb}
 use Rattle.base.specs.Laws.{clash, cases}
-use Rattle.rows.specs.LentRows.{romRowLength, hasSetRow, sizeOf, firstRom, romCount, serveOf, typeWord}
-use Rattle.rows.specs.Laws.{widthAltered, altered-length, altered-types}
+use Rattle.rows.specs.LentRows.{rom_row_length, has_set_row, size_of, first_rom, rom_count, serve_of, type_word}
+use Rattle.rows.specs.Laws.{width_altered, altered_length, altered_types}
 use Rattle.set_data.specs.Data.{unvalued}
-use Rattle.same_set.specs.Same.{typesIn, types, anyAbove33, badSet, compared, equal, sameSet}
+use Rattle.same_set.specs.Same.{types_in, types, any_above33, bad_set, compared, equal, same_set}
 
 -- ---- the types of ROM rows, one by one
 
 module _ (words : List ℕ) (at left : ℕ) where
-  types-cons : at < length words → (left ≡ 0 → ⊥) → typesIn (drop at words) left ≡ get_or words at 0 ∷ typesIn (drop (at + romRowLength) words) (left - 1)
-  unfolding typesIn
-  types-cons h i = rw (drop-cons words at 0 h) (go left i)
+  types_cons : at < length words → (left ≡ 0 → ⊥) → types_in (drop at words) left ≡ get_or words at 0 ∷ types_in (drop (at + rom_row_length) words) (left - 1)
+  unfolding types_in
+  types_cons h i = rw (drop-cons words at 0 h) (go left i)
     where
-      after : drop (pred romRowLength) (drop (suc at) words) ≡ drop (at + romRowLength) words
-      after = let e : suc at + pred romRowLength ≡ at + romRowLength = omega arith in drop-drop (pred romRowLength) (suc at) words ∙ rw e
+      after : drop (pred rom_row_length) (drop (suc at) words) ≡ drop (at + rom_row_length) words
+      after = let e : suc at + pred rom_row_length ≡ at + rom_row_length = omega arith in drop-drop (pred rom_row_length) (suc at) words ∙ rw e
 
-      go : (n : ℕ) → (n ≡ 0 → ⊥) → typesIn (get_or words at 0 ∷ drop (suc at) words) n ≡ get_or words at 0 ∷ typesIn (drop (at + romRowLength) words) (n - 1)
+      go : (n : ℕ) → (n ≡ 0 → ⊥) → types_in (get_or words at 0 ∷ drop (suc at) words) n ≡ get_or words at 0 ∷ types_in (drop (at + rom_row_length) words) (n - 1)
       go zero j = absurd (j refl)
       go (suc n) j = rw (after, sub-one (suc n))
 
-  pub above-found : at < length words → (left ≡ 0 → ⊥) → 33 < get_or words at 0 → true ≡ anyAbove33 (typesIn (drop at words) left)
-  unfolding anyAbove33
-  above-found h i j = rw (types-cons h i, lt-ltb 33 (get_or words at 0) j)
+  pub above_found : at < length words → (left ≡ 0 → ⊥) → 33 < get_or words at 0 → true ≡ any_above33 (types_in (drop at words) left)
+  unfolding any_above33
+  above_found h i j = rw (types_cons h i, lt-ltb 33 (get_or words at 0) j)
 
-  pub above-next : at < length words → (left ≡ 0 → ⊥) → get_or words at 0 ≤ 33 → anyAbove33 (typesIn (drop (at + romRowLength) words) (left - 1)) ≡ anyAbove33 (typesIn (drop at words) left)
-  unfolding anyAbove33
-  above-next h i j = rw (types-cons h i, le-ltb 33 (get_or words at 0) j)
+  pub above_next : at < length words → (left ≡ 0 → ⊥) → get_or words at 0 ≤ 33 → any_above33 (types_in (drop (at + rom_row_length) words) (left - 1)) ≡ any_above33 (types_in (drop at words) left)
+  unfolding any_above33
+  above_next h i j = rw (types_cons h i, le-ltb 33 (get_or words at 0) j)
 
-  pub above-none : left ≡ 0 → false ≡ anyAbove33 (typesIn (drop at words) left)
-  unfolding anyAbove33 typesIn
-  above-none e = rw e
+  pub above_none : left ≡ 0 → false ≡ any_above33 (types_in (drop at words) left)
+  unfolding any_above33 types_in
+  above_none e = rw e
 
 module _ (a b : List ℕ) (at left : ℕ) where
-  pub types-differ : at < length a → at < length b → (left ≡ 0 → ⊥) → (get_or a at 0 ≡ get_or b at 0 → ⊥) → false ≡ equal (typesIn (drop at a) left) (typesIn (drop at b) left)
+  pub types_differ : at < length a → at < length b → (left ≡ 0 → ⊥) → (get_or a at 0 ≡ get_or b at 0 → ⊥) → false ≡ equal (types_in (drop at a) left) (types_in (drop at b) left)
   unfolding equal
-  types-differ h i j e = rw (types-cons a at left h j, types-cons b at left i j, ne_eqb (get_or a at 0) (get_or b at 0) e)
+  types_differ h i j e = rw (types_cons a at left h j, types_cons b at left i j, ne_eqb (get_or a at 0) (get_or b at 0) e)
 
-  pub types-next : at < length a → at < length b → (left ≡ 0 → ⊥) → get_or a at 0 ≡ get_or b at 0
-      → equal (typesIn (drop (at + romRowLength) a) (left - 1)) (typesIn (drop (at + romRowLength) b) (left - 1)) ≡ equal (typesIn (drop at a) left) (typesIn (drop at b) left)
+  pub types_next : at < length a → at < length b → (left ≡ 0 → ⊥) → get_or a at 0 ≡ get_or b at 0
+      → equal (types_in (drop (at + rom_row_length) a) (left - 1)) (types_in (drop (at + rom_row_length) b) (left - 1)) ≡ equal (types_in (drop at a) left) (types_in (drop at b) left)
   unfolding equal
-  types-next h i j e = rw (types-cons a at left h j, types-cons b at left i j, eq-eqb (get_or a at 0) (get_or b at 0) e)
+  types_next h i j e = rw (types_cons a at left h j, types_cons b at left i j, eq-eqb (get_or a at 0) (get_or b at 0) e)
 
-  pub types-same : left ≡ 0 → true ≡ equal (typesIn (drop at a) left) (typesIn (drop at b) left)
-  unfolding equal typesIn
-  types-same e = rw e
+  pub types_same : left ≡ 0 → true ≡ equal (types_in (drop at a) left) (types_in (drop at b) left)
+  unfolding equal types_in
+  types_same e = rw e
 
 -- ---- a set that can't be compared
 
 module _ (sets roms : List ℕ) (i : ℕ) where
-  pub bad-row : hasSetRow sets i ≡ false → true ≡ badSet sets roms i
-  unfolding badSet
-  bad-row h = rw h
+  pub bad_row : has_set_row sets i ≡ false → true ≡ bad_set sets roms i
+  unfolding bad_set
+  bad_row h = rw h
 
-  module _ (row : hasSetRow sets i ≡ true) where
-    pub bad-empty : romCount sets i ≡ 0 → false ≡ badSet sets roms i
-    unfolding badSet
-    bad-empty h = rw (row, h)
+  module _ (row : has_set_row sets i ≡ true) where
+    pub bad_empty : rom_count sets i ≡ 0 → false ≡ bad_set sets roms i
+    unfolding bad_set
+    bad_empty h = rw (row, h)
 
-    pub bad-short : (romCount sets i ≡ 0 → ⊥) → length roms < romRowLength * (firstRom sets i + romCount sets i) → true ≡ badSet sets roms i
-    unfolding badSet
-    bad-short h s = let p : 0 < romCount sets i = omega arith in rw (row, lt-ltb 0 (romCount sets i) p, lt-ltb (length roms) (romRowLength * (firstRom sets i + romCount sets i)) s)
+    pub bad_short : (rom_count sets i ≡ 0 → ⊥) → length roms < rom_row_length * (first_rom sets i + rom_count sets i) → true ≡ bad_set sets roms i
+    unfolding bad_set
+    bad_short h s = let p : 0 < rom_count sets i = omega arith in rw (row, lt-ltb 0 (rom_count sets i) p, lt-ltb (length roms) (rom_row_length * (first_rom sets i + rom_count sets i)) s)
 
-    pub bad-types : (romCount sets i ≡ 0 → ⊥) → romRowLength * (firstRom sets i + romCount sets i) ≤ length roms
-        → anyAbove33 (typesIn (drop (romRowLength * firstRom sets i) roms) (romCount sets i)) ≡ badSet sets roms i
-    unfolding badSet
-    bad-types h s = let p : 0 < romCount sets i = omega arith in rw (row, lt-ltb 0 (romCount sets i) p, le-ltb (length roms) (romRowLength * (firstRom sets i + romCount sets i)) s)
+    pub bad_types : (rom_count sets i ≡ 0 → ⊥) → rom_row_length * (first_rom sets i + rom_count sets i) ≤ length roms
+        → any_above33 (types_in (drop (rom_row_length * first_rom sets i) roms) (rom_count sets i)) ≡ bad_set sets roms i
+    unfolding bad_set
+    bad_types h s = let p : 0 < rom_count sets i = omega arith in rw (row, lt-ltb 0 (rom_count sets i) p, le-ltb (length roms) (rom_row_length * (first_rom sets i + rom_count sets i)) s)
 
   -- a set that can be compared has its ROM rows among those lent
-  good-rows : badSet sets roms i ≡ false → (romCount sets i ≡ 0 → ⊥) → romRowLength * (firstRom sets i + romCount sets i) ≤ length roms
-  unfolding badSet
-  good-rows h c =
-      let p : 0 < romCount sets i = omega arith in
-      go (hasSetRow sets i) (ltb (length roms) (romRowLength * (firstRom sets i + romCount sets i))) refl (rw (lt-ltb 0 (romCount sets i) p) at h)
+  good_rows : bad_set sets roms i ≡ false → (rom_count sets i ≡ 0 → ⊥) → rom_row_length * (first_rom sets i + rom_count sets i) ≤ length roms
+  unfolding bad_set
+  good_rows h c =
+      let p : 0 < rom_count sets i = omega arith in
+      go (has_set_row sets i) (ltb (length roms) (rom_row_length * (first_rom sets i + rom_count sets i))) refl (rw (lt-ltb 0 (rom_count sets i) p) at h)
     where
-      go : (b s : Bool) → ltb (length roms) (romRowLength * (firstRom sets i + romCount sets i)) ≡ s → (not b || (s || anyAbove33 (types sets roms i))) ≡ false
-          → romRowLength * (firstRom sets i + romCount sets i) ≤ length roms
-      go true false e f = ltb-false (length roms) (romRowLength * (firstRom sets i + romCount sets i)) e
+      go : (b s : Bool) → ltb (length roms) (rom_row_length * (first_rom sets i + rom_count sets i)) ≡ s → (not b || (s || any_above33 (types sets roms i))) ≡ false
+          → rom_row_length * (first_rom sets i + rom_count sets i) ≤ length roms
+      go true false e f = ltb-false (length roms) (rom_row_length * (first_rom sets i + rom_count sets i)) e
       go true true e f = clash (cc)
       go false s e f = clash (cc)
 
-  pub enough-rows : badSet sets roms i ≡ false → (n first : ℕ) → n ≡ romCount sets i → first ≡ firstRom sets i → (words : List ℕ) → words ≡ drop (romRowLength * first) roms → romRowLength * n ≤ length words
-  enough-rows h n first v w words e = rw (e, length-drop (romRowLength * first) roms) (go n refl)
+  pub enough_rows : bad_set sets roms i ≡ false → (n first : ℕ) → n ≡ rom_count sets i → first ≡ first_rom sets i → (words : List ℕ) → words ≡ drop (rom_row_length * first) roms → rom_row_length * n ≤ length words
+  enough_rows h n first v w words e = rw (e, length-drop (rom_row_length * first) roms) (go n refl)
     where
-      go : (k : ℕ) → n ≡ k → romRowLength * n ≤ length roms - romRowLength * first
+      go : (k : ℕ) → n ≡ k → rom_row_length * n ≤ length roms - rom_row_length * first
       go zero z = omega arith
-      go (suc k) z = omega (arith, good-rows h (λ y. absurd (omega arith)))
+      go (suc k) z = omega (arith, good_rows h (λ y. absurd (omega arith)))
 
 -- ---- the comparison
 
 module _ (sets roms : List ℕ) (a b : ℕ) where
-  pub differ-size : (sizeOf sets a ≡ sizeOf sets b → ⊥) → false ≡ equal (compared sets roms a) (compared sets roms b)
+  pub differ_size : (size_of sets a ≡ size_of sets b → ⊥) → false ≡ equal (compared sets roms a) (compared sets roms b)
   unfolding compared equal
-  differ-size h = rw (ne_eqb (sizeOf sets a) (sizeOf sets b) h)
+  differ_size h = rw (ne_eqb (size_of sets a) (size_of sets b) h)
 
-  module _ (sizes : sizeOf sets a ≡ sizeOf sets b) where
-    pub differ-count : (romCount sets a ≡ romCount sets b → ⊥) → false ≡ equal (compared sets roms a) (compared sets roms b)
+  module _ (sizes : size_of sets a ≡ size_of sets b) where
+    pub differ_count : (rom_count sets a ≡ rom_count sets b → ⊥) → false ≡ equal (compared sets roms a) (compared sets roms b)
     unfolding compared equal
-    differ-count h = rw (eq-eqb (sizeOf sets a) (sizeOf sets b) sizes, ne_eqb (romCount sets a) (romCount sets b) h)
+    differ_count h = rw (eq-eqb (size_of sets a) (size_of sets b) sizes, ne_eqb (rom_count sets a) (rom_count sets b) h)
 
-    module _ (counts : romCount sets a ≡ romCount sets b) where
-      pub differ-serve : (serveOf sets a ≡ serveOf sets b → ⊥) → false ≡ equal (compared sets roms a) (compared sets roms b)
+    module _ (counts : rom_count sets a ≡ rom_count sets b) where
+      pub differ_serve : (serve_of sets a ≡ serve_of sets b → ⊥) → false ≡ equal (compared sets roms a) (compared sets roms b)
       unfolding compared equal
-      differ-serve h =
-          rw (eq-eqb (sizeOf sets a) (sizeOf sets b) sizes, eq-eqb (romCount sets a) (romCount sets b) counts, ne_eqb (serveOf sets a) (serveOf sets b) h)
+      differ_serve h =
+          rw (eq-eqb (size_of sets a) (size_of sets b) sizes, eq-eqb (rom_count sets a) (rom_count sets b) counts, ne_eqb (serve_of sets a) (serve_of sets b) h)
 
-      module _ (serves : serveOf sets a ≡ serveOf sets b) where
+      module _ (serves : serve_of sets a ≡ serve_of sets b) where
         -- ROM count, first ROM rows and the words from there on, as the code has them
-        pub by-types : (n first other : ℕ) → n ≡ romCount sets a → first ≡ firstRom sets a → other ≡ firstRom sets b → (v w : List ℕ) → v ≡ drop (romRowLength * first) roms → w ≡ drop (romRowLength * other) roms
-            → equal (typesIn v n) (typesIn w n) ≡ equal (compared sets roms a) (compared sets roms b)
+        pub by_types : (n first other : ℕ) → n ≡ rom_count sets a → first ≡ first_rom sets a → other ≡ first_rom sets b → (v w : List ℕ) → v ≡ drop (rom_row_length * first) roms → w ≡ drop (rom_row_length * other) roms
+            → equal (types_in v n) (types_in w n) ≡ equal (compared sets roms a) (compared sets roms b)
         unfolding compared equal
-        by-types n first other e f g v w h i =
-            rw (h, i, e, f, g, eq-eqb (sizeOf sets a) (sizeOf sets b) sizes, eq-eqb (romCount sets a) (romCount sets b) counts, eq-eqb (serveOf sets a) (serveOf sets b) serves, ← counts)
+        by_types n first other e f g v w h i =
+            rw (h, i, e, f, g, eq-eqb (size_of sets a) (size_of sets b) sizes, eq-eqb (rom_count sets a) (rom_count sets b) counts, eq-eqb (serve_of sets a) (serve_of sets b) serves, ← counts)
 
 -- ---- the call
 
 module _ (served : ℕ) (sets roms : List ℕ) (a b : ℕ) where
-  pub no-first : served ≤ a → unvalued 80 ≡ sameSet served sets roms a b
-  unfolding sameSet
-  no-first h = rw (le-leb served a h)
+  pub no_first : served ≤ a → unvalued 80 ≡ same_set served sets roms a b
+  unfolding same_set
+  no_first h = rw (le-leb served a h)
 
   module _ (first : a < served) where
-    pub no-second : served ≤ b → unvalued 80 ≡ sameSet served sets roms a b
-    unfolding sameSet
-    no-second h = rw (lt-leb served a first, le-leb served b h)
+    pub no_second : served ≤ b → unvalued 80 ≡ same_set served sets roms a b
+    unfolding same_set
+    no_second h = rw (lt-leb served a first, le-leb served b h)
 
     module _ (second : b < served) where
-      pub bad-first : badSet sets roms a ≡ true → unvalued 4 ≡ sameSet served sets roms a b
-      unfolding sameSet
-      bad-first h = rw (lt-leb served a first, lt-leb served b second, h)
+      pub bad_first : bad_set sets roms a ≡ true → unvalued 4 ≡ same_set served sets roms a b
+      unfolding same_set
+      bad_first h = rw (lt-leb served a first, lt-leb served b second, h)
 
-      module _ (good : badSet sets roms a ≡ false) where
-        pub bad-second : badSet sets roms b ≡ true → unvalued 4 ≡ sameSet served sets roms a b
-        unfolding sameSet
-        bad-second h = rw (lt-leb served a first, lt-leb served b second, good, h)
+      module _ (good : bad_set sets roms a ≡ false) where
+        pub bad_second : bad_set sets roms b ≡ true → unvalued 4 ≡ same_set served sets roms a b
+        unfolding same_set
+        bad_second h = rw (lt-leb served a first, lt-leb served b second, good, h)
 
-        module _ (also-good : badSet sets roms b ≡ false) where
-          pub told-same : equal (compared sets roms a) (compared sets roms b) ≡ true → record { number = 0; value = 1 } ≡ sameSet served sets roms a b
-          unfolding sameSet
-          told-same h = rw (lt-leb served a first, lt-leb served b second, good, also-good, h)
+        module _ (also_good : bad_set sets roms b ≡ false) where
+          pub told_same : equal (compared sets roms a) (compared sets roms b) ≡ true → record { number = 0; value = 1 } ≡ same_set served sets roms a b
+          unfolding same_set
+          told_same h = rw (lt-leb served a first, lt-leb served b second, good, also_good, h)
 
-          pub told-other : equal (compared sets roms a) (compared sets roms b) ≡ false → record { number = 0; value = 0 } ≡ sameSet served sets roms a b
-          unfolding sameSet
-          told-other h = rw (lt-leb served a first, lt-leb served b second, good, also-good, h)
+          pub told_other : equal (compared sets roms a) (compared sets roms b) ≡ false → record { number = 0; value = 0 } ≡ same_set served sets roms a b
+          unfolding same_set
+          told_other h = rw (lt-leb served a first, lt-leb served b second, good, also_good, h)
 
 -- ---- of the ROM rows it looks at how many words are lent and at the types: with other names and widths the answer is the same
 
-module _ (roms other : List ℕ) (long : length other ≡ length roms) (same : (row : ℕ) → typeWord other row ≡ typeWord roms row) where
-  types-by-types : (n row : ℕ) → typesIn (drop (romRowLength * row) other) n ≡ typesIn (drop (romRowLength * row) roms) n
-  unfolding typesIn
-  types-by-types zero row = refl
-  types-by-types (suc n) row =
-      let at = romRowLength * row in
+module _ (roms other : List ℕ) (long : length other ≡ length roms) (same : (row : ℕ) → type_word other row ≡ type_word roms row) where
+  types_by_types : (n row : ℕ) → types_in (drop (rom_row_length * row) other) n ≡ types_in (drop (rom_row_length * row) roms) n
+  unfolding types_in
+  types_by_types zero row = refl
+  types_by_types (suc n) row =
+      let at = rom_row_length * row in
       let some : suc n ≡ 0 → ⊥ = λ e. omega arith in
       let head : get_or other at 0 ≡ get_or roms at 0 = rw add-zero at (same row) in
-      let next : at + romRowLength ≡ romRowLength * suc row = omega (arith, mul-suc romRowLength row) in
+      let next : at + rom_row_length ≡ rom_row_length * suc row = omega (arith, mul-suc rom_row_length row) in
       cases (ltb at (length roms))
       (λ e.
       let inside = ltb-true at (length roms) e in
-      types-cons other at (suc n) (omega arith) some
-      ∙ rw (head, next, sub-one) (ap (λ (ts : List ℕ). get_or roms at 0 ∷ ts) (types-by-types n (suc row)))
-      ∙ sym (types-cons roms at (suc n) inside some))
+      types_cons other at (suc n) (omega arith) some
+      ∙ rw (head, next, sub-one) (ap (λ (ts : List ℕ). get_or roms at 0 ∷ ts) (types_by_types n (suc row)))
+      ∙ sym (types_cons roms at (suc n) inside some))
       (λ e.
       let outside = ltb-false at (length roms) e in
       let past : length other ≤ at = omega arith in
       rw (drop_of_length-le roms outside, drop_of_length-le other past))
 
-  pub same-by-types : (served : ℕ) (sets : List ℕ) (a b : ℕ) → sameSet served sets other a b ≡ sameSet served sets roms a b
-  unfolding sameSet badSet compared
-  same-by-types served sets a b =
-      rw (types-by-types (romCount sets a) (firstRom sets a), types-by-types (romCount sets b) (firstRom sets b), long)
+  pub same_by_types : (served : ℕ) (sets : List ℕ) (a b : ℕ) → same_set served sets other a b ≡ same_set served sets roms a b
+  unfolding same_set bad_set compared
+  same_by_types served sets a b =
+      rw (types_by_types (rom_count sets a) (first_rom sets a), types_by_types (rom_count sets b) (first_rom sets b), long)
 
-pub width-altered-same : (roms : List ℕ) (row word served : ℕ) (sets : List ℕ) (a b : ℕ)
-    → sameSet served sets (widthAltered roms row word) a b ≡ sameSet served sets roms a b
-width-altered-same roms row word served sets a b =
-    same-by-types roms (widthAltered roms row word) (altered-length roms row word) (altered-types roms row word) served sets a b
+pub width_altered_same : (roms : List ℕ) (row word served : ℕ) (sets : List ℕ) (a b : ℕ)
+    → same_set served sets (width_altered roms row word) a b ≡ same_set served sets roms a b
+width_altered_same roms row word served sets a b =
+    same_by_types roms (width_altered roms row word) (altered_length roms row word) (altered_types roms row word) served sets a b

@@ -2,16 +2,16 @@
 #![tactic(auto)]
 
 ghost use Rattle.std.specs.Prelude.{◌≡◌, false, ◌*◌, ◌≤◌, length, drop};
-ghost use Rattle.rows.specs.LentRows.{romRowLength};
+ghost use Rattle.rows.specs.LentRows.{rom_row_length};
 ghost use Rattle.set_data.specs.Data.{unvalued};
-ghost use Rattle.same_set.specs.Same.{typesIn, anyAbove33, badSet, compared, equal, sameSet};
+ghost use Rattle.same_set.specs.Same.{types_in, any_above33, bad_set, compared, equal, same_set};
 
 use rows::SetWord;
 use set_data::Valued;
 
 // The words from a ROM row on; none where it lies past their end.
 fn from_row(rom_rows: &[u32], row: u32) -> &[u32]
-    ensures { result.now ≡ drop (romRowLength * row) rom_rows.now }
+    ensures { result.now ≡ drop (rom_row_length * row) rom_rows.now }
 {
     let at = rows::ROM_WORDS * (row as usize);
     if rom_rows.len() < at {
@@ -22,8 +22,8 @@ fn from_row(rom_rows: &[u32], row: u32) -> &[u32]
 
 // Whether one of the first ROM rows, so many of them, has a type above 33.
 fn any_above_33(words: &[u32], count: u32) -> bool
-    requires { romRowLength * count ≤ length words.now }
-    ensures { result ≡ anyAbove33 (typesIn words.now count) }
+    requires { rom_row_length * count ≤ length words.now }
+    ensures { result ≡ any_above33 (types_in words.now count) }
 {
     let mut at: usize = 0;
     let mut left = count;
@@ -39,8 +39,8 @@ fn any_above_33(words: &[u32], count: u32) -> bool
 
 // Whether the types of the first ROM rows, so many of them, agree.
 fn same_types(a: &[u32], b: &[u32], count: u32) -> bool
-    requires { (romRowLength * count ≤ length a.now) × (romRowLength * count ≤ length b.now) }
-    ensures { result ≡ equal (typesIn a.now count) (typesIn b.now count) }
+    requires { (rom_row_length * count ≤ length a.now) × (rom_row_length * count ≤ length b.now) }
+    ensures { result ≡ equal (types_in a.now count) (types_in b.now count) }
 {
     let mut i: usize = 0;
     let mut left = count;
@@ -55,9 +55,9 @@ fn same_types(a: &[u32], b: &[u32], count: u32) -> bool
 }
 
 // 4: the set's row or one of its ROM rows isn't among those lent, or a type is above 33. Only rows that are lent are looked at.
-#[tactic(auto, unfolding(crate::specs::Same::badSet))]
+#[tactic(auto, unfolding(crate::specs::Same::bad_set))]
 fn is_bad_set(set_rows: &[u32], rom_rows: &[u32], set: u32) -> bool
-    ensures { result ≡ badSet set_rows.now rom_rows.now set }
+    ensures { result ≡ bad_set set_rows.now rom_rows.now set }
 {
     if !rows::has_set_row(set_rows, set) {
         return true;
@@ -76,7 +76,7 @@ fn is_bad_set(set_rows: &[u32], rom_rows: &[u32], set: u32) -> bool
 // Whether size, ROM count, serve and every type in order agree.
 #[tactic(auto, unfolding(crate::specs::Same::compared, crate::specs::Same::equal))]
 fn is_same(set_rows: &[u32], rom_rows: &[u32], a: u32, b: u32) -> bool
-    requires { (badSet set_rows.now rom_rows.now a ≡ false) × (badSet set_rows.now rom_rows.now b ≡ false) }
+    requires { (bad_set set_rows.now rom_rows.now a ≡ false) × (bad_set set_rows.now rom_rows.now b ≡ false) }
     ensures { result ≡ equal (compared set_rows.now rom_rows.now a) (compared set_rows.now rom_rows.now b) }
 {
     if rows::set_word(set_rows, a, SetWord::Size) != rows::set_word(set_rows, b, SetWord::Size) {
@@ -101,9 +101,9 @@ fn refuse(number: u8) -> Valued
 }
 
 // 80: either is no set. 4: either set's row or one of its ROM rows. Then 1 exactly if size, ROM count, serve and every type agree.
-#[tactic(auto, unfolding(crate::specs::Same::sameSet))]
+#[tactic(auto, unfolding(crate::specs::Same::same_set))]
 pub fn same_set(served: u32, set_rows: &[u32], rom_rows: &[u32], a: u32, b: u32) -> Valued
-    ensures { result ≡ sameSet served set_rows.now rom_rows.now a b }
+    ensures { result ≡ same_set served set_rows.now rom_rows.now a b }
 {
     if served <= a {
         return refuse(80);

@@ -2,7 +2,7 @@
 #![tactic(auto)]
 
 ghost use Rattle.std.specs.Prelude.{◌≡◌};
-ghost use Rattle.sdrr_info.specs.Report.{boardOf};
+ghost use Rattle.sdrr_info.specs.Report.{board_of};
 
 use board::Board;
 use extra_info::ExtraInfoItem;
@@ -27,7 +27,7 @@ pub struct SdrrInfo {
 
 // What later calls look at of an opened board.
 pub fn board(settings: Settings, info: SdrrInfo) -> Board
-    ensures { result ≡ boardOf settings info }
+    ensures { result ≡ board_of settings info }
 {
     let fields = info.fields;
     let line = fields.stm_line;

@@ -3,9 +3,9 @@
 #![tactic(auto)]
 
 ghost use Rattle.std.specs.Prelude.{◌≡◌};
-ghost use Rattle.rows.specs.LentRows.{setNumber};
-ghost use Rattle.set_data.specs.Data.{sizeCall};
-ghost use Rattle.set_data.specs.Code.{setData, notFound, foundOf};
+ghost use Rattle.rows.specs.LentRows.{set_number};
+ghost use Rattle.set_data.specs.Data.{size_call};
+ghost use Rattle.set_data.specs.Code.{set_data, not_found, found_of};
 
 use rows::SetWord;
 
@@ -33,7 +33,7 @@ pub struct Found {
 
 // 80: no such set. 4: its row. 0: neither.
 fn set_number(served: u32, set_rows: &[u32], set: u32) -> u8
-    ensures { result ≡ setNumber served set_rows.now set }
+    ensures { result ≡ set_number served set_rows.now set }
 {
     if served <= set {
         return 80;
@@ -44,9 +44,9 @@ fn set_number(served: u32, set_rows: &[u32], set: u32) -> u8
     0
 }
 
-#[tactic(auto, unfolding(crate::specs::Data::sizeCall))]
+#[tactic(auto, unfolding(crate::specs::Data::size_call))]
 pub fn get_rom_set_size(served: u32, set_rows: &[u32], set: u32) -> Valued
-    ensures { result ≡ sizeCall served set_rows.now set }
+    ensures { result ≡ size_call served set_rows.now set }
 {
     let number = set_number(served, set_rows, set);
     if number != 0 {
@@ -59,7 +59,7 @@ pub fn get_rom_set_size(served: u32, set_rows: &[u32], set: u32) -> Valued
 }
 
 pub fn set_data(served: u32, set_rows: &[u32], set: u32) -> SetData
-    ensures { result ≡ setData served set_rows.now set }
+    ensures { result ≡ set_data served set_rows.now set }
 {
     SetData {
         number: set_number(served, set_rows, set),
@@ -69,15 +69,15 @@ pub fn set_data(served: u32, set_rows: &[u32], set: u32) -> SetData
 }
 
 fn not_found(number: u8) -> Found
-    ensures { result ≡ notFound number }
+    ensures { result ≡ not_found number }
 {
     Found { number, at: 0 }
 }
 
 // n bytes of a set, from an offset on: 80, 4, 81, 2. No sum is made that could overflow.
-#[tactic(auto, unfolding(crate::specs::Code::foundOf))]
+#[tactic(auto, unfolding(crate::specs::Code::found_of))]
 pub fn find(image: &[u8], base: u32, data: SetData, offset: u32, n: usize) -> Found
-    ensures { result ≡ foundOf image.now base «data» offset n }
+    ensures { result ≡ found_of image.now base «data» offset n }
 {
     if data.number != 0 {
         return not_found(data.number);

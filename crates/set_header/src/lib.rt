@@ -3,11 +3,11 @@
 #![tactic(auto)]
 
 ghost use Rattle.std.specs.Prelude.{◌≡◌, ◌+◌, ◌≤◌};
-ghost use Rattle.set_header.specs.SetHeader.{infoPointer, pointed, configOf, overridesOf, strideOf};
+ghost use Rattle.set_header.specs.SetHeader.{info_pointer, pointed, config_of, overrides_of, stride_of};
 
 // The pointer in an entry of the table.
 pub fn info_ptr(image: &[u8], base: u32, entry: u64) -> u32
-    ensures { result ≡ infoPointer image.now base entry }
+    ensures { result ≡ info_pointer image.now base entry }
 {
     le::u32_at(window::image_from(image, base, entry), 0)
 }
@@ -24,20 +24,20 @@ fn pointed_at(counts: bool, ptr: u32) -> u32
 }
 
 pub fn serve_config(s: &[u8]) -> u32
-    ensures { result ≡ configOf s.now }
+    ensures { result ≡ config_of s.now }
 {
     pointed_at(le::u8_at(s, 15) == 1, le::u32_at(s, 16))
 }
 
 pub fn firmware_overrides(s: &[u8]) -> u32
-    ensures { result ≡ overridesOf s.now }
+    ensures { result ≡ overrides_of s.now }
 {
     pointed_at(le::u8_at(s, 15) == 1, le::u32_at(s, 20))
 }
 
 // The stride is 16, plus 48 where the longer one is known and the extra byte is 1.
 pub fn set_stride(long: bool, s: &[u8]) -> u64
-    ensures { result ≡ strideOf long s.now }
+    ensures { result ≡ stride_of long s.now }
 {
     if base::both(long, le::u8_at(s, 15) == 1) {
         return 64;

@@ -3,9 +3,9 @@
 
 ghost use Rattle.std.specs.Prelude.{◌≡◌, length};
 ghost use Rattle.prog.specs.Prog.{run};
-ghost use Rattle.walk.specs.Names.{walkNamesP};
+ghost use Rattle.walk.specs.Names.{walk_names_p};
 ghost use Rattle.rom_rows.specs.Reply as rows;
-ghost use Rattle.sets_item.specs.Code.{walkOf, itemOf};
+ghost use Rattle.sets_item.specs.Code.{walk_of, item_of};
 
 use header::SdrrInfoFields;
 use sets_source::SetsSource;
@@ -19,9 +19,9 @@ pub struct SetsItem {
 }
 
 // The sets served are the set count where the walk is accepted, otherwise none.
-#[tactic(auto, unfolding(crate::specs::Code::itemOf))]
+#[tactic(auto, unfolding(crate::specs::Code::item_of))]
 pub fn sets_item(number: u8, count: u8) -> SetsItem
-    ensures { result ≡ itemOf number count }
+    ensures { result ≡ item_of number count }
 {
     let mut served = 0;
     if number == 0 {
@@ -43,9 +43,9 @@ pub fn walk_sets(
     set_rows: &mut [u32],
     rom_rows: &mut [u32],
 ) -> u8
-    ensures reply { result ≡ (rows.walkReply (walkOf base fields source image.now) (length set_rows.old) (length rom_rows.old)).number }
-    ensures sets { set_rows.new ≡ rows.walkSetRows (walkOf base fields source image.now) (length rom_rows.old) set_rows.old }
-    ensures roms { rom_rows.new ≡ rows.walkRomRows (walkOf base fields source image.now) (run (walkNamesP base (walkOf base fields source image.now)) image.now) (length set_rows.old) rom_rows.old }
+    ensures reply { result ≡ (rows.walk_reply (walk_of base fields source image.now) (length set_rows.old) (length rom_rows.old)).number }
+    ensures sets { set_rows.new ≡ rows.walk_set_rows (walk_of base fields source image.now) (length rom_rows.old) set_rows.old }
+    ensures roms { rom_rows.new ≡ rows.walk_rom_rows (walk_of base fields source image.now) (run (walk_names_p base (walk_of base fields source image.now)) image.now) (length set_rows.old) rom_rows.old }
 {
     if source.ended {
         return 2;

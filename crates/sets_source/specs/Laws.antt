@@ -2,17 +2,17 @@
 -- Assumes nothing.
 use Rattle.std.specs.Prelude.{ℕ, ◌≡◌, true, false, List}
 use Rattle.prog.specs.Prog.{run}
-use Rattle.prog.specs.Laws.Run.{run-done, run-map}
+use Rattle.prog.specs.Laws.Run.{run_done, run_map}
 use Rattle.header.specs.declared.SdrrInfoHeader.{SdrrInfoHeader}
 use Rattle.version.specs.Version.{from050}
-use Rattle.metadata.specs.Metadata.{metadataP}
-use Rattle.sets_source.specs.Looked.{notLookedFor, looked, lookP}
+use Rattle.metadata.specs.Metadata.{metadata_p}
+use Rattle.sets_source.specs.Looked.{not_looked_for, looked, look_p}
 
 module _ (x : List ℕ) (base : ℕ) (h : SdrrInfoHeader) where
-  pub not-looked-for : from050 h.fields.version ≡ false → run (lookP base h) x ≡ notLookedFor
-  unfolding lookP
-  not-looked-for e = rw e (run-done x notLookedFor)
+  pub not_looked_for_is : from050 h.fields.version ≡ false → run (look_p base h) x ≡ not_looked_for
+  unfolding look_p
+  not_looked_for_is e = rw e (run_done x not_looked_for)
 
-  pub looked-for : from050 h.fields.version ≡ true → run (lookP base h) x ≡ looked (run (metadataP base h.rom_sets_ptr) x)
-  unfolding lookP
-  looked-for e = rw e (run-map x looked (metadataP base h.rom_sets_ptr))
+  pub looked_for : from050 h.fields.version ≡ true → run (look_p base h) x ≡ looked (run (metadata_p base h.rom_sets_ptr) x)
+  unfolding look_p
+  looked_for e = rw e (run_map x looked (metadata_p base h.rom_sets_ptr))

@@ -3,8 +3,8 @@
 
 ghost use Rattle.std.specs.Prelude.{◌≡◌};
 ghost use Rattle.prog.specs.Prog.{run};
-ghost use Rattle.sets_source.specs.Looked.{lookP};
-ghost use Rattle.sets_source.specs.Code.{sourceOf};
+ghost use Rattle.sets_source.specs.Looked.{look_p};
+ghost use Rattle.sets_source.specs.Code.{source_of};
 
 use header::SdrrInfoHeader;
 use metadata::MetadataItem;
@@ -19,7 +19,7 @@ pub struct SetsSource {
 }
 
 pub fn sets_source(image: &[u8], base: u32, header: SdrrInfoHeader) -> SetsSource
-    ensures { result ≡ sourceOf header (run (lookP base header) image.now) }
+    ensures { result ≡ source_of header (run (look_p base header) image.now) }
 {
     let fields = header.fields;
     if !version::from_0_5_0(fields.version) {

@@ -3,7 +3,7 @@
 #![tactic(auto)]
 
 ghost use Rattle.std.specs.Prelude.{◌≡◌, [], ◌∷◌};
-ghost use Rattle.starred.specs.Table.{ofRecord, ofString, ofByte, ofAddress, expected};
+ghost use Rattle.starred.specs.Table.{of_record, of_string, of_byte, of_address, expected};
 ghost use Rattle.starred.specs.Table.Case.{R1, R2, R3, R4, T1, T2, T3, D1, D2, M1, M2, M3};
 
 use std::io;
@@ -33,7 +33,7 @@ struct AddressAnswer {
 }
 
 fn record_answer(record: &[u8]) -> RuntimeAnswer
-    ensures { (result.number ∷ result.words) ≡ ofRecord «record».now }
+    ensures { (result.number ∷ result.words) ≡ of_record «record».now }
 {
     let mut words = [9u32; 25];
     let number = c_runtime::runtime_call(record, 536870912, &mut words);
@@ -73,7 +73,7 @@ fn case_r4() -> RuntimeAnswer
 }
 
 fn string_answer(image: &[u8]) -> StringAnswer
-    ensures { (result.number ∷ result.part) ≡ ofString image.now }
+    ensures { (result.number ∷ result.part) ≡ of_string image.now }
 {
     let mut part = [9u32; text::PART_WORDS];
     let number = c_string::string_call(image, 134217728, 134217728, &mut part);
@@ -106,7 +106,7 @@ fn case_t3() -> StringAnswer
 }
 
 fn byte_answer(data: &[u8; 8]) -> ByteAnswer
-    ensures { (result.number ∷ result.value ∷ []) ≡ ofByte «data».now }
+    ensures { (result.number ∷ result.value ∷ []) ≡ of_byte «data».now }
 {
     let mut value = 9u8;
     let number = c_mangle::demangle_call(0, data, 1, &mut value);
@@ -129,7 +129,7 @@ fn case_d2() -> ByteAnswer
 
 // One set with one ROM, a 2364; CS1 high.
 fn address_answer(addr: &[u8; 16], cs1: u8, address: u32) -> AddressAnswer
-    ensures { (result.number ∷ result.value ∷ []) ≡ ofAddress addr.now cs1 address }
+    ensures { (result.number ∷ result.value ∷ []) ≡ of_address addr.now cs1 address }
 {
     let control = [cs1, 255, 255, 255, 255, 255, 255];
     let set_row = [0u32, 0, 0, 1, 0, 0, 0, 0];

@@ -3,15 +3,15 @@
 
 ghost use Rattle.std.specs.Prelude.{◌≡◌, length};
 ghost use Rattle.prog.specs.Prog.{run};
-ghost use Rattle.text.specs.Text.{refusedText, textP};
-ghost use Rattle.strings.specs.Code.{asciiFront, ShortAscii};
+ghost use Rattle.text.specs.Text.{refused_text, text_p};
+ghost use Rattle.strings.specs.Code.{ascii_front, ShortAscii};
 
 use chunks::CHUNK;
 use text::Text;
 
 // How many bytes at the front are ASCII other than NUL.
 fn ascii_front(s: &[u8]) -> usize
-    ensures { result ≡ length (asciiFront s.now) }
+    ensures { result ≡ length (ascii_front s.now) }
 {
     let mut i = 0;
     while i < s.len() {
@@ -46,7 +46,7 @@ fn short_ascii(image: &[u8], base: u32, ptr: u32) -> usize
 }
 
 fn refuse(number: u8) -> Text
-    ensures { result ≡ refusedText number }
+    ensures { result ≡ refused_text number }
 {
     Text {
         number,
@@ -59,7 +59,7 @@ fn refuse(number: u8) -> Text
 // Any string, as a report or a row holds it. By itself, so that the quick way pays nothing for it.
 #[inline(never)]
 fn read_any_string(image: &[u8], base: u32, ptr: u32) -> Text
-    ensures { result ≡ run (textP base ptr) image.now }
+    ensures { result ≡ run (text_p base ptr) image.now }
 {
     let mut number = 0;
     let mut width = 0;
@@ -77,7 +77,7 @@ fn read_any_string(image: &[u8], base: u32, ptr: u32) -> Text
 
 // The string at a pointer as a report or a row holds it: where its part stands in the image.
 pub fn read_string_at_ptr(image: &[u8], base: u32, ptr: u32) -> Text
-    ensures { result ≡ run (textP base ptr) image.now }
+    ensures { result ≡ run (text_p base ptr) image.now }
 {
     let n = short_ascii(image, base, ptr);
     if n < CHUNK {

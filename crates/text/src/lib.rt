@@ -2,7 +2,7 @@
 #![tactic(auto)]
 
 ghost use Rattle.std.specs.Prelude.{◌≡◌};
-ghost use Rattle.text.specs.Text.{partOf};
+ghost use Rattle.text.specs.Text.{part_of};
 
 // How many words tell an accepted string's part: offset, length, width.
 pub const PART_WORDS: usize = 3;
@@ -19,7 +19,7 @@ pub struct Text {
 
 // The part of the image that a string's offset and length name; an empty part where that does not lie in the image.
 pub fn string_part(image: &[u8], text: Text) -> &[u8]
-    ensures { result.now ≡ partOf image.now text }
+    ensures { result.now ≡ part_of image.now text }
 {
     let from = text.offset as usize;
     let to = from + text.length as usize;

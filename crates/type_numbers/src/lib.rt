@@ -2,12 +2,12 @@
 #![tactic(auto)]
 
 ghost use Rattle.std.specs.Prelude.{◌≡◌};
-ghost use Rattle.type_numbers.specs.TypeNumbers.{lineNumber, storageNumber, portNumber};
+ghost use Rattle.type_numbers.specs.TypeNumbers.{line_number, storage_number, port_number};
 
 use types::{McuLine, McuStorage, SdrrMcuPort};
 
 pub fn line_number(line: McuLine) -> u8
-    ensures { result ≡ lineNumber line }
+    ensures { result ≡ line_number line }
 {
     match line {
         McuLine::F401DE => 0,
@@ -20,7 +20,7 @@ pub fn line_number(line: McuLine) -> u8
 }
 
 pub fn storage_number(storage: McuStorage) -> u8
-    ensures { result ≡ storageNumber storage }
+    ensures { result ≡ storage_number storage }
 {
     match storage {
         McuStorage::Storage8 => 0,
@@ -35,7 +35,7 @@ pub fn storage_number(storage: McuStorage) -> u8
 }
 
 pub fn port_number(port: SdrrMcuPort) -> u8
-    ensures { result ≡ portNumber port }
+    ensures { result ≡ port_number port }
 {
     match port {
         SdrrMcuPort::None => 0,

@@ -2,7 +2,7 @@
 #![tactic(auto)]
 
 ghost use Rattle.std.specs.Prelude.{◌≡◌};
-ghost use Rattle.types.specs.Types.{lineOf, storageOf, portOf, romTypeOf};
+ghost use Rattle.types.specs.Types.{line_of, storage_of, port_of, rom_type_of};
 
 // The microcontroller line: an STM32F4, or the Rp2350.
 #[derive(Clone, Copy)]
@@ -16,9 +16,9 @@ pub enum McuLine {
 }
 
 // The line of a number; of one above 5, which the header does not accept, the first line.
-#[tactic(auto, unfolding(crate::specs::Types::lineOf))]
+#[tactic(auto, unfolding(crate::specs::Types::line_of))]
 pub fn line_of(number: u16) -> McuLine
-    ensures { result ≡ lineOf number }
+    ensures { result ≡ line_of number }
 {
     match number {
         1 => McuLine::F405,
@@ -44,9 +44,9 @@ pub enum McuStorage {
 }
 
 // The storage of a number; of one above 7, which the header does not accept, the first storage.
-#[tactic(auto, unfolding(crate::specs::Types::storageOf))]
+#[tactic(auto, unfolding(crate::specs::Types::storage_of))]
 pub fn storage_of(number: u16) -> McuStorage
-    ensures { result ≡ storageOf number }
+    ensures { result ≡ storage_of number }
 {
     match number {
         1 => McuStorage::StorageB,
@@ -72,9 +72,9 @@ pub enum SdrrMcuPort {
 }
 
 // The port of a number; None where there is none of that number.
-#[tactic(auto, unfolding(crate::specs::Types::portOf))]
+#[tactic(auto, unfolding(crate::specs::Types::port_of))]
 pub fn port_of(number: u8) -> SdrrMcuPort
-    ensures { result ≡ portOf number }
+    ensures { result ≡ port_of number }
 {
     match number {
         1 => SdrrMcuPort::PortA,
@@ -126,9 +126,9 @@ pub enum SdrrRomType {
 }
 
 // The ROM type of a number; of one above 33, which every caller refuses first, the first type.
-#[tactic(auto, unfolding(crate::specs::Types::romTypeOf))]
+#[tactic(auto, unfolding(crate::specs::Types::rom_type_of))]
 pub fn rom_type_of(number: u32) -> SdrrRomType
-    ensures { result ≡ romTypeOf number }
+    ensures { result ≡ rom_type_of number }
 {
     match number {
         1 => SdrrRomType::Rom2332,

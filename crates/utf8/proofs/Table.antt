@@ -20,11 +20,11 @@ second : (p q : Bool) → T (p && q) → T q
 second true q t = t
 second false q t = absurd t
 
-obeys-from : (rule : ℕ → ℕ) (xs : List ℕ) (i : ℕ) → T (obeys rule i xs) → (k : ℕ) → k < length xs → get_or xs k 0 ≡ rule (i + k)
-obeys-from rule [] i t k h = absurd (not-suc-le-zero h)
-obeys-from rule (x ∷ xs) i t zero h = eqb→eq x (rule i) (first (eqb x (rule i)) (obeys rule (suc i) xs) t) ∙ ap rule (sym (add-zero i))
-obeys-from rule (x ∷ xs) i t (suc k) h =
-    obeys-from rule xs (suc i) (second (eqb x (rule i)) (obeys rule (suc i) xs) t) k (le_of_suc-le-suc h) ∙ ap rule (suc-add i k ∙ sym (add-suc i k))
+obeys_from : (rule : ℕ → ℕ) (xs : List ℕ) (i : ℕ) → T (obeys rule i xs) → (k : ℕ) → k < length xs → get_or xs k 0 ≡ rule (i + k)
+obeys_from rule [] i t k h = absurd (not-suc-le-zero h)
+obeys_from rule (x ∷ xs) i t zero h = eqb→eq x (rule i) (first (eqb x (rule i)) (obeys rule (suc i) xs) t) ∙ ap rule (sym (add-zero i))
+obeys_from rule (x ∷ xs) i t (suc k) h =
+    obeys_from rule xs (suc i) (second (eqb x (rule i)) (obeys rule (suc i) xs) t) k (le_of_suc-le-suc h) ∙ ap rule (suc-add i k ∙ sym (add-suc i k))
 
-pub at-place : (rule : ℕ → ℕ) (xs : List ℕ) → T (obeys rule 0 xs) → (k : ℕ) → k < length xs → get_or xs k 0 ≡ rule k
-at-place rule xs t k h = obeys-from rule xs 0 t k h ∙ ap rule (zero-add k)
+pub at_place : (rule : ℕ → ℕ) (xs : List ℕ) → T (obeys rule 0 xs) → (k : ℕ) → k < length xs → get_or xs k 0 ≡ rule k
+at_place rule xs t k h = obeys_from rule xs 0 t k h ∙ ap rule (zero-add k)

@@ -4,8 +4,8 @@
 mod classes;
 
 ghost use Rattle.std.specs.Prelude.{◌≡◌};
-ghost use Rattle.utf8.specs.Utf8.{within, classOf, ClassTable, lowAfter, highAfter, isUtf8};
-ghost use Rattle.utf8.specs.Points.{pointsOf};
+ghost use Rattle.utf8.specs.Utf8.{within, class_of, ClassTable, low_after, high_after, is_utf8};
+ghost use Rattle.utf8.specs.Points.{points_of};
 
 use classes::{ALONE, LEAD_OF_FOUR, UTF8_CLASSES};
 
@@ -18,15 +18,15 @@ fn is_within(low: u8, high: u8, b: u8) -> bool
 // The class of b, looked up. The table is lent, so that it stands in memory once and not anew for each byte.
 fn class_of(classes: &[u8; 256], b: u8) -> u8
     requires { ClassTable classes.now }
-    ensures { result ≡ classOf b }
+    ensures { result ≡ class_of b }
 {
     classes[b as usize]
 }
 
 // The limits of a continuation byte after the byte `last`.
-#[tactic(auto, unfolding(crate::specs::Utf8::lowAfter))]
+#[tactic(auto, unfolding(crate::specs::Utf8::low_after))]
 fn low_after(last: u8) -> u8
-    ensures { result ≡ lowAfter last }
+    ensures { result ≡ low_after last }
 {
     match last {
         0xE0 => 0xA0,
@@ -35,9 +35,9 @@ fn low_after(last: u8) -> u8
     }
 }
 
-#[tactic(auto, unfolding(crate::specs::Utf8::highAfter))]
+#[tactic(auto, unfolding(crate::specs::Utf8::high_after))]
 fn high_after(last: u8) -> u8
-    ensures { result ≡ highAfter last }
+    ensures { result ≡ high_after last }
 {
     match last {
         0xED => 0x9F,
@@ -51,7 +51,7 @@ fn high_after(last: u8) -> u8
 #[inline(never)]
 fn scan(classes: &[u8; 256], s: &[u8]) -> Option<usize>
     requires { ClassTable classes.now }
-    ensures { result ≡ pointsOf s.now }
+    ensures { result ≡ points_of s.now }
 {
     let mut lacks: u8 = 0;
     let mut last: u8 = 0;
@@ -83,7 +83,7 @@ fn scan(classes: &[u8; 256], s: &[u8]) -> Option<usize>
 
 // The code points of s, if it is UTF-8.
 pub fn code_points(s: &[u8]) -> Option<usize>
-    ensures { result ≡ pointsOf s.now }
+    ensures { result ≡ points_of s.now }
 {
     scan(&UTF8_CLASSES, s)
 }
@@ -91,7 +91,7 @@ pub fn code_points(s: &[u8]) -> Option<usize>
 // Whether s is UTF-8.
 #[tactic(auto, using(crate::proofs::Steps::some_counted))]
 pub fn is_utf8(s: &[u8]) -> bool
-    ensures { result ≡ isUtf8 s.now }
+    ensures { result ≡ is_utf8 s.now }
 {
     code_points(s).is_some()
 }

@@ -13,8 +13,8 @@ before v w =
     && (ltb v.minor w.minor
     || (eqb v.minor w.minor && (ltb v.patch w.patch || (eqb v.patch w.patch && ltb v.build w.build)))))
 
-abbrev pub atOrPast : FirmwareVersion → FirmwareVersion → Bool
-atOrPast v w = not (before v w)
+abbrev pub at_or_past : FirmwareVersion → FirmwareVersion → Bool
+at_or_past v w = not (before v w)
 
 -- "Info header": below 0.4 there is no extra pointer
 abbrev pub below04 : FirmwareVersion → Bool
@@ -22,16 +22,16 @@ below04 v = before v (version 0 4 0 0)
 
 -- "Metadata": looked for only from 0.5.0
 abbrev pub from050 : FirmwareVersion → Bool
-from050 v = atOrPast v (version 0 5 0 0)
+from050 v = at_or_past v (version 0 5 0 0)
 
 -- "ROM sets and ROM infos": filenames from 0.5.1
 abbrev pub from051 : FirmwareVersion → Bool
-from051 v = atOrPast v (version 0 5 1 0)
+from051 v = at_or_past v (version 0 5 1 0)
 
 -- "Extra info": the PIO default flag is given from 0.6.0; "ROM sets and ROM infos": so is the longer stride
 abbrev pub from060 : FirmwareVersion → Bool
-from060 v = atOrPast v (version 0 6 0 0)
+from060 v = at_or_past v (version 0 6 0 0)
 
 -- the schema limit 0.7.0 build 0
 abbrev pub from070 : FirmwareVersion → Bool
-from070 v = atOrPast v (version 0 7 0 0)
+from070 v = at_or_past v (version 0 7 0 0)

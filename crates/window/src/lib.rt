@@ -3,7 +3,7 @@
 #![tactic(auto)]
 
 ghost use Rattle.std.specs.Prelude.{◌≡◌};
-ghost use Rattle.window.specs.Window.{canRead, onFrom, pastWindow, beyondWindow, baseAfter, pointerNumber};
+ghost use Rattle.window.specs.Window.{can_read, on_from, past_window, beyond_window, base_after, pointer_number};
 
 use types::McuLine;
 
@@ -16,9 +16,9 @@ pub struct Settings {
 }
 
 // Whether a read of n bytes at an address succeeds.
-#[tactic(auto, unfolding(crate::specs::Window::canRead))]
+#[tactic(auto, unfolding(crate::specs::Window::can_read))]
 pub fn can_read(image: &[u8], base: u32, address: u64, n: usize) -> bool
-    ensures { result ≡ canRead image.now base address n }
+    ensures { result ≡ can_read image.now base address n }
 {
     let from = base as u64;
     if address < from {
@@ -35,9 +35,9 @@ pub fn can_read(image: &[u8], base: u32, address: u64, n: usize) -> bool
 }
 
 // The image from an address on: all of it below the base, and nothing past its end.
-#[tactic(auto, unfolding(crate::specs::Window::onFrom))]
+#[tactic(auto, unfolding(crate::specs::Window::on_from))]
 pub fn image_from(image: &[u8], base: u32, address: u64) -> &[u8]
-    ensures { result.now ≡ onFrom image.now base address }
+    ensures { result.now ≡ on_from image.now base address }
 {
     let start = base as u64;
     if address < start {
@@ -51,9 +51,9 @@ pub fn image_from(image: &[u8], base: u32, address: u64) -> &[u8]
 }
 
 // 3, 2 or 0: what n bytes at a pointer are refused with.
-#[tactic(auto, unfolding(crate::specs::Window::pointerNumber))]
+#[tactic(auto, unfolding(crate::specs::Window::pointer_number))]
 pub fn pointer_number(image: &[u8], base: u32, ptr: u32, n: usize) -> u8
-    ensures { result ≡ pointerNumber image.now base ptr n }
+    ensures { result ≡ pointer_number image.now base ptr n }
 {
     if ptr < base {
         return 3;
@@ -65,24 +65,24 @@ pub fn pointer_number(image: &[u8], base: u32, ptr: u32, n: usize) -> u8
 }
 
 // The base plus the image's length exceeds 2^32.
-#[tactic(auto, unfolding(crate::specs::Window::pastWindow))]
+#[tactic(auto, unfolding(crate::specs::Window::past_window))]
 pub fn past_window(image: &[u8], base: u32) -> bool
-    ensures { result ≡ pastWindow base image.now }
+    ensures { result ≡ past_window base image.now }
 {
     4294967296 - (base as usize) < image.len()
 }
 
 // The window check: either base plus the image's length exceeds 2^32.
 pub fn beyond_window(image: &[u8], flash_base: u32, cs0_base: u32) -> bool
-    ensures { result ≡ beyondWindow flash_base cs0_base image.now }
+    ensures { result ≡ beyond_window flash_base cs0_base image.now }
 {
     base::either(past_window(image, flash_base), past_window(image, cs0_base))
 }
 
 // The base in force after the header: the CS0 base for Rp2350.
-#[tactic(auto, unfolding(types::specs::Types::isRp2350))]
+#[tactic(auto, unfolding(types::specs::Types::is_rp2350))]
 pub fn base_after(flash_base: u32, cs0_base: u32, line: McuLine) -> u32
-    ensures { result ≡ baseAfter flash_base cs0_base line }
+    ensures { result ≡ base_after flash_base cs0_base line }
 {
     match line {
         McuLine::F401DE => flash_base,

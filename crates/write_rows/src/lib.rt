@@ -4,12 +4,12 @@
 ghost use Rattle.std.specs.Prelude.{◌≡◌, ◌+◌, ◌*◌, ◌≤◌, length};
 ghost use Rattle.std.proofs.lemmas.List.Edits.{sets};
 ghost use Rattle.prog.specs.Prog.{run};
-ghost use Rattle.rows.specs.LentRows.{setRowLength, romRowLength};
-ghost use Rattle.walk.specs.Walk.{romOf, romsOf};
-ghost use Rattle.walk.specs.Rows.{setRows};
-ghost use Rattle.walk.specs.Names.{nameP};
-ghost use Rattle.walk.specs.Code.Passes.{romAt, romsAt, setsAt};
-ghost use Rattle.write_rows.specs.Code.{setRowWords, romRowWords, namedRow, namedRows};
+ghost use Rattle.rows.specs.LentRows.{set_row_length, rom_row_length};
+ghost use Rattle.walk.specs.Walk.{rom_of, roms_of};
+ghost use Rattle.walk.specs.Rows.{set_rows_of};
+ghost use Rattle.walk.specs.Names.{name_p};
+ghost use Rattle.walk.specs.Code.Passes.{rom_at, roms_at, sets_at};
+ghost use Rattle.write_rows.specs.Code.{set_row_words, rom_row_words, named_row, named_rows};
 
 use text::Text;
 
@@ -26,9 +26,9 @@ fn put_words(rows: &mut [u32], at: usize, words: &[u32])
 }
 
 // The row of the set whose part of the image is s.
-#[tactic(auto, unfolding(crate::specs::Code::setRowWords))]
+#[tactic(auto, unfolding(crate::specs::Code::set_row_words))]
 fn set_row(first: u32, s: &[u8]) -> [u32; rows::SET_WORDS]
-    ensures { result ≡ setRowWords first s.now }
+    ensures { result ≡ set_row_words first s.now }
 {
     [
         le::u32_at(s, 0),
@@ -43,9 +43,9 @@ fn set_row(first: u32, s: &[u8]) -> [u32; rows::SET_WORDS]
 }
 
 // The row of a ROM info and its name.
-#[tactic(auto, unfolding(crate::specs::Code::romRowWords))]
+#[tactic(auto, unfolding(crate::specs::Code::rom_row_words))]
 fn rom_row(s: &[u8], name: Text) -> [u32; rows::ROM_WORDS]
-    ensures { result ≡ romRowWords s.now name }
+    ensures { result ≡ rom_row_words s.now name }
 {
     [
         le::u8_at(s, 0) as u32,
@@ -62,7 +62,7 @@ fn rom_row(s: &[u8], name: Text) -> [u32; rows::ROM_WORDS]
 // The name of a ROM info; one that is missing has reason 1, without a read.
 #[tactic(auto, using(crate::proofs::RowSteps::named_steps))]
 fn rom_name(image: &[u8], base: u32, filenames: bool, s: &[u8]) -> Text
-    ensures { result ≡ run (nameP base (romOf base filenames s.now).name) image.now }
+    ensures { result ≡ run (name_p base (rom_of base filenames s.now).name) image.now }
 {
     let ptr = le::u32_at(s, 4);
     let away = base::either(ptr < base, ptr == 4294967295);
@@ -80,7 +80,7 @@ fn rom_name(image: &[u8], base: u32, filenames: bool, s: &[u8]) -> Text
 // The row of the ROM whose pointer is in an entry of the table.
 #[tactic(auto, using(crate::proofs::RowSteps::named_steps))]
 fn named_row(image: &[u8], base: u32, filenames: bool, entry: u64) -> [u32; rows::ROM_WORDS]
-    ensures { result ≡ namedRow image.now base (romAt image.now base filenames entry) }
+    ensures { result ≡ named_row image.now base (rom_at image.now base filenames entry) }
 {
     let s = window::image_from(image, base, set_header::info_ptr(image, base, entry) as u64);
     rom_row(s, rom_name(image, base, filenames, s))
@@ -97,8 +97,8 @@ fn write_roms(
     table: u32,
     count: u8,
 )
-    requires { from + romRowLength * count ≤ length rows.old }
-    ensures { rows.new ≡ sets rows.old from (namedRows image.now base (romsAt image.now base filenames table count)) }
+    requires { from + rom_row_length * count ≤ length rows.old }
+    ensures { rows.new ≡ sets rows.old from (named_rows image.now base (roms_at image.now base filenames table count)) }
 {
     let mut entry = table as u64;
     let mut left = count;
@@ -124,9 +124,9 @@ pub fn write_rom_sets(
     set_rows: &mut [u32],
     rom_rows: &mut [u32],
 )
-    requires { (setRowLength * count ≤ length set_rows.old) × (romRowLength * length (romsOf (setsAt image.now base filenames long ptr count)) ≤ length rom_rows.old) }
-    ensures sets { set_rows.new ≡ sets set_rows.old 0 (setRows (setsAt image.now base filenames long ptr count)) }
-    ensures roms { rom_rows.new ≡ sets rom_rows.old 0 (namedRows image.now base (romsOf (setsAt image.now base filenames long ptr count))) }
+    requires { (set_row_length * count ≤ length set_rows.old) × (rom_row_length * length (roms_of (sets_at image.now base filenames long ptr count)) ≤ length rom_rows.old) }
+    ensures sets { set_rows.new ≡ sets set_rows.old 0 (set_rows_of (sets_at image.now base filenames long ptr count)) }
+    ensures roms { rom_rows.new ≡ sets rom_rows.old 0 (named_rows image.now base (roms_of (sets_at image.now base filenames long ptr count))) }
 {
     let mut address = ptr as u64;
     let mut total: u32 = 0;

@@ -1,42 +1,42 @@
 use Rattle.std.proofs.Common.{sym, ap, ◌∙◌}
-use Rattle.info.specs.Lent.{lentBy}
+use Rattle.info.specs.Lent.{lent_by}
 use Rattle.info.specs.Reads.{own, Reply}
-use Rattle.byte_reads.specs.Calls.{byteOf}
-use Rattle.jobs.specs.Laws.Tested.{none-read, none-left, its-read, its-left}
-use Rattle.c_handed.specs.Handed.{boardIn}
-use Rattle.c_board.specs.Board.{levelsFrom}
-use Rattle.c_board.specs.Value.{valueAfter}
-use Rattle.c_own.specs.Code.{ownOnCount}
-use Rattle.c_job_reads.specs.Reads.{ownCall}
+use Rattle.byte_reads.specs.Calls.{byte_of}
+use Rattle.jobs.specs.Laws.Tested.{none_read, none_left, its_read, its_left}
+use Rattle.c_handed.specs.Handed.{board_in}
+use Rattle.c_board.specs.Board.{levels_from}
+use Rattle.c_board.specs.Value.{value_after}
+use Rattle.c_own.specs.Code.{own_on_count}
+use Rattle.c_job_reads.specs.Reads.{own_call}
 use Rattle.c_job_reads.proofs.own_byte_call.Goals as goal
 
 pub returns-then-not-is_job-clause-reply : goal.returns-then-not-is_job-clause-reply
-unfolding ownCall
+unfolding own_call
 returns-then-not-is_job-clause-reply c =
     let a = c.args in
-    ap (λ (t : Reply). t.number) (none-read a.flash_base a.cs0_base (lentBy (boardIn a.flash_base a.cs0_base a.report) a.set_rows.now a.rom_rows.now) a.job a.counts.now (own a.set a.address (levelsFrom a.levels.now)) a.image.now (sym c.is_job.ensures ∙ c.if-not-is_job.true) c.told-counts _ c.no_job.ensures)
+    ap (λ (t : Reply). t.number) (none_read a.flash_base a.cs0_base (lent_by (board_in a.flash_base a.cs0_base a.report) a.set_rows.now a.rom_rows.now) a.job a.counts.now (own a.set a.address (levels_from a.levels.now)) a.image.now (sym c.is_job.ensures ∙ c.if-not-is_job.true) c.told-counts _ c.no_job.ensures)
 
 pub returns-then-not-is_job-clause-counts : goal.returns-then-not-is_job-clause-counts
-unfolding ownCall
+unfolding own_call
 returns-then-not-is_job-clause-counts c =
     let a = c.args in
-    none-left a.flash_base a.cs0_base (lentBy (boardIn a.flash_base a.cs0_base a.report) a.set_rows.now a.rom_rows.now) a.job a.counts.now (own a.set a.address (levelsFrom a.levels.now)) a.image.now (sym c.is_job.ensures ∙ c.if-not-is_job.true)
+    none_left a.flash_base a.cs0_base (lent_by (board_in a.flash_base a.cs0_base a.report) a.set_rows.now a.rom_rows.now) a.job a.counts.now (own a.set a.address (levels_from a.levels.now)) a.image.now (sym c.is_job.ensures ∙ c.if-not-is_job.true)
 
 pub returns-clause-reply : goal.returns-clause-reply
-unfolding ownCall ownOnCount
+unfolding own_call own_on_count
 returns-clause-reply c =
     let a = c.args in
-    c.own_byte_on_count-number.ensures.reply ∙ ap (λ (t : Reply). t.number) (its-read a.flash_base a.cs0_base (lentBy (boardIn a.flash_base a.cs0_base a.report) a.set_rows.now a.rom_rows.now) a.job a.counts.now (own a.set a.address (levelsFrom a.levels.now)) a.image.now (sym c.is_job.ensures ∙ c.if-not-is_job.false) _ c.count_of-own_count.ensures)
+    c.own_byte_on_count-number.ensures.reply ∙ ap (λ (t : Reply). t.number) (its_read a.flash_base a.cs0_base (lent_by (board_in a.flash_base a.cs0_base a.report) a.set_rows.now a.rom_rows.now) a.job a.counts.now (own a.set a.address (levels_from a.levels.now)) a.image.now (sym c.is_job.ensures ∙ c.if-not-is_job.false) _ c.count_of-own_count.ensures)
 
 pub returns-clause-counts : goal.returns-clause-counts
-unfolding ownCall ownOnCount
+unfolding own_call own_on_count
 returns-clause-counts c =
     let a = c.args in
-    its-left a.flash_base a.cs0_base (lentBy (boardIn a.flash_base a.cs0_base a.report) a.set_rows.now a.rom_rows.now) a.job a.counts.now (own a.set a.address (levelsFrom a.levels.now)) a.image.now (sym c.is_job.ensures ∙ c.if-not-is_job.false) _ c.count_of-own_count.ensures
+    its_left a.flash_base a.cs0_base (lent_by (board_in a.flash_base a.cs0_base a.report) a.set_rows.now a.rom_rows.now) a.job a.counts.now (own a.set a.address (levels_from a.levels.now)) a.image.now (sym c.is_job.ensures ∙ c.if-not-is_job.false) _ c.count_of-own_count.ensures
     _ c.own_byte_on_count-number.ensures.count _ c.leave.ensures
 
 pub returns-clause-value : goal.returns-clause-value
-unfolding ownCall ownOnCount
+unfolding own_call own_on_count
 returns-clause-value c =
     let a = c.args in
-    c.own_byte_on_count-number.ensures.value ∙ ap (λ (t : Reply). valueAfter c.own_byte_on_count-number.result (byteOf t).byte a.value.now) (its-read a.flash_base a.cs0_base (lentBy (boardIn a.flash_base a.cs0_base a.report) a.set_rows.now a.rom_rows.now) a.job a.counts.now (own a.set a.address (levelsFrom a.levels.now)) a.image.now (sym c.is_job.ensures ∙ c.if-not-is_job.false) _ c.count_of-own_count.ensures)
+    c.own_byte_on_count-number.ensures.value ∙ ap (λ (t : Reply). value_after c.own_byte_on_count-number.result (byte_of t).byte a.value.now) (its_read a.flash_base a.cs0_base (lent_by (board_in a.flash_base a.cs0_base a.report) a.set_rows.now a.rom_rows.now) a.job a.counts.now (own a.set a.address (levels_from a.levels.now)) a.image.now (sym c.is_job.ensures ∙ c.if-not-is_job.false) _ c.count_of-own_count.ensures)

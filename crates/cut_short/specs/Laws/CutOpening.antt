@@ -9,88 +9,88 @@ use Rattle.std.proofs.Math.Bool.{true, false}
 use mathlib.Core.List.{List, [], ◌∷◌, map}
 use borrow.Author.Tests.{le-ltb}
 use Rattle.base.specs.Choice.{pick}
-use Rattle.window.specs.Window.{baseAfter}
-use Rattle.prog.specs.Prog.{Prog, done, mapP, run}
+use Rattle.window.specs.Window.{base_after}
+use Rattle.prog.specs.Prog.{Prog, done, map_p, run}
 use Rattle.prog.specs.Laws.Cut.{Cut, OrEnded}
-use Rattle.prog.specs.Laws.Parts.{cut-done, cut-bind, cut-map}
-use Rattle.prog.specs.Laws.Honest.{cut-honest}
+use Rattle.prog.specs.Laws.Parts.{cut_done, cut_bind, cut_map}
+use Rattle.prog.specs.Laws.Honest.{cut_honest}
 use Rattle.text.specs.declared.Text.{Text}
 use Rattle.header.specs.declared.SdrrInfoHeader.{SdrrInfoHeader}
 use Rattle.header.specs.declared.HeaderAnswer.{HeaderAnswer}
-use Rattle.header.specs.Laws.{header-honest}
+use Rattle.header.specs.Laws.{header_honest}
 use Rattle.metadata.specs.declared.MetadataItem.{MetadataItem}
-use Rattle.walk.specs.Walk.{RomSet, Part, stop, found, romsOf}
-use Rattle.walk.specs.Rows.{setRows, romFront, shortSets, shortRoms}
+use Rattle.walk.specs.Walk.{RomSet, Part, stop, found, roms_of}
+use Rattle.walk.specs.Rows.{set_rows_of, rom_front, short_sets, short_roms}
 use Rattle.walk.specs.Laws.Ended.{Ended}
 use Rattle.window.specs.declared.Settings.{Settings}
-use Rattle.fw_parser.specs.Opening.{Looked, notLookedFor, looked, Sets, ItemAnswers, itemsOf, itemsP, metadataItem, setsItem, reportOf, setsOf, Opened, refused, opened, verdict, afterHeader, openP}
-use Rattle.cut_short.specs.Shown.{nameOf, EndedReport, Kept}
-use Rattle.cut_short.specs.Laws.Cuts.{EndedLook, EndedName, EndedSets, NamesCut, EndedRow, RowCut, row-cut}
+use Rattle.fw_parser.specs.Opening.{Looked, not_looked_for, looked, Sets, ItemAnswers, items_of, items_p, metadata_item, sets_item, report_of, sets_of, Opened, refused, opened, verdict, after_header, open_p}
+use Rattle.cut_short.specs.Shown.{name_of, EndedReport, Kept}
+use Rattle.cut_short.specs.Laws.Cuts.{EndedLook, EndedName, EndedSets, NamesCut, EndedRow, RowCut, row_cut}
 
 -- ---- names by their ROM row
 
-name-ended : (ts : List Text) → EndedName ts → (i : ℕ) × (i < length ts) × ((nameOf ts i).number ≡ 2)
-name-ended [] e = absurd e
-name-ended (t ∷ ts) (inl e) = (zero, suc-le-suc_iff.1 (omega arith), e)
-name-ended (t ∷ ts) (inr e) = let r = name-ended ts e in (suc r.0, suc-le-suc_iff.1 r.1, r.2)
+name_ended : (ts : List Text) → EndedName ts → (i : ℕ) × (i < length ts) × ((name_of ts i).number ≡ 2)
+name_ended [] e = absurd e
+name_ended (t ∷ ts) (inl e) = (zero, suc-le-suc_iff.1 (omega arith), e)
+name_ended (t ∷ ts) (inr e) = let r = name_ended ts e in (suc r.0, suc-le-suc_iff.1 r.1, r.2)
 
-name-kept : (ts ws : List Text) → NamesCut ts ws → (i : ℕ) → i < length ts
-    → ((nameOf ts i).number ≡ 2) ⊎ ((i < length ws) × (nameOf ts i ≡ nameOf ws i))
-name-kept [] ws c i l = absurd (not-suc-le-zero l)
-name-kept (t ∷ ts) [] c i l = absurd c
-name-kept (t ∷ ts) (w ∷ ws) c zero l = ⊎_elim inl (λ (e : t ≡ w). inr (suc-le-suc_iff.1 (omega arith), e)) c.0
-name-kept (t ∷ ts) (w ∷ ws) c (suc i) l =
-    ⊎_elim inl (λ (r : (i < length ws) × (nameOf ts i ≡ nameOf ws i)). inr (suc-le-suc_iff.1 r.0, r.1)) (name-kept ts ws c.1 i (le_of_suc-le-suc l))
+name_kept : (ts ws : List Text) → NamesCut ts ws → (i : ℕ) → i < length ts
+    → ((name_of ts i).number ≡ 2) ⊎ ((i < length ws) × (name_of ts i ≡ name_of ws i))
+name_kept [] ws c i l = absurd (not-suc-le-zero l)
+name_kept (t ∷ ts) [] c i l = absurd c
+name_kept (t ∷ ts) (w ∷ ws) c zero l = ⊎_elim inl (λ (e : t ≡ w). inr (suc-le-suc_iff.1 (omega arith), e)) c.0
+name_kept (t ∷ ts) (w ∷ ws) c (suc i) l =
+    ⊎_elim inl (λ (r : (i < length ws) × (name_of ts i ≡ name_of ws i)). inr (suc-le-suc_iff.1 r.0, r.1)) (name_kept ts ws c.1 i (le_of_suc-le-suc l))
 
 -- ---- items of the report
 
-metadata-ended : (l : Looked) → EndedLook l → metadataItem l ≡ MetadataItem.Looked 2
-metadata-ended notLookedFor e = absurd e
-metadata-ended (looked m) e = ap MetadataItem.Looked e
+metadata_ended_is : (l : Looked) → EndedLook l → metadata_item l ≡ MetadataItem.Looked 2
+metadata_ended_is not_looked_for e = absurd e
+metadata_ended_is (looked m) e = ap MetadataItem.Looked e
 
-sets-number : (n : ℕ) (w : Part (List RomSet)) → Ended w → (setsItem n w).number ≡ 2
-sets-number n (stop m passed) e = e
-sets-number n (found ss) e = absurd e
+sets_number_is : (n : ℕ) (w : Part (List RomSet)) → Ended w → (sets_item n w).number ≡ 2
+sets_number_is n (stop m passed) e = e
+sets_number_is n (found ss) e = absurd e
 
-sets-served : (n : ℕ) (w : Part (List RomSet)) → Ended w → (setsItem n w).served ≡ 0
-sets-served n (stop m passed) e = refl
-sets-served n (found ss) e = absurd e
+sets_served : (n : ℕ) (w : Part (List RomSet)) → Ended w → (sets_item n w).served ≡ 0
+sets_served n (stop m passed) e = refl
+sets_served n (found ss) e = absurd e
 
 -- one name for each ROM that the rows list
 abbrev Named : ItemAnswers → Type 0
-Named t = length (itemsOf t).names ≡ length (romsOf (setsOf (itemsOf t).sets.walk))
+Named t = length (items_of t).names ≡ length (roms_of (sets_of (items_of t).sets.walk))
 
 module _ (h : SdrrInfoHeader) (t w : ItemAnswers) (named : Named t) where
-  report-ended : EndedRow t → EndedReport (reportOf h (itemsOf t)) (setsOf (itemsOf t).sets.walk) (itemsOf t).names
-  unfolding reportOf
-  report-ended (inl e) = inl e
-  report-ended (inr (inl e)) = inr (inl e)
-  report-ended (inr (inr (inl e))) = inr (inr (inl e))
-  report-ended (inr (inr (inr (inl e)))) = inr (inr (inr (inl (metadata-ended (itemsOf t).metadata e))))
-  report-ended (inr (inr (inr (inr (inl e))))) = inr (inr (inr (inr (inl (sets-number (itemsOf t).sets.count (itemsOf t).sets.walk e)))))
-  report-ended (inr (inr (inr (inr (inr (inl e)))))) = inr (inr (inr (inr (inr (inl (rw (← named) (name-ended (itemsOf t).names e)))))))
-  report-ended (inr (inr (inr (inr (inr (inr e)))))) = inr (inr (inr (inr (inr (inr e)))))
+  report_ended : EndedRow t → EndedReport (report_of h (items_of t)) (sets_of (items_of t).sets.walk) (items_of t).names
+  unfolding report_of
+  report_ended (inl e) = inl e
+  report_ended (inr (inl e)) = inr (inl e)
+  report_ended (inr (inr (inl e))) = inr (inr (inl e))
+  report_ended (inr (inr (inr (inl e)))) = inr (inr (inr (inl (metadata_ended_is (items_of t).metadata e))))
+  report_ended (inr (inr (inr (inr (inl e))))) = inr (inr (inr (inr (inl (sets_number_is (items_of t).sets.count (items_of t).sets.walk e)))))
+  report_ended (inr (inr (inr (inr (inr (inl e)))))) = inr (inr (inr (inr (inr (inl (rw (← named) (name_ended (items_of t).names e)))))))
+  report_ended (inr (inr (inr (inr (inr (inr e)))))) = inr (inr (inr (inr (inr (inr e)))))
 
   kept : RowCut t w
-      → Kept (reportOf h (itemsOf t)) (setsOf (itemsOf t).sets.walk) (itemsOf t).names (reportOf h (itemsOf w)) (setsOf (itemsOf w).sets.walk) (itemsOf w).names
-  unfolding reportOf
+      → Kept (report_of h (items_of t)) (sets_of (items_of t).sets.walk) (items_of t).names (report_of h (items_of w)) (sets_of (items_of w).sets.walk) (items_of w).names
+  unfolding report_of
   kept c =
       record {
         header = refl;
-        build-date = c.0;
+        build_date = c.0;
         revision = c.1.0;
-        extra-info = c.1.1.0;
-        metadata = ⊎_elim (λ (e : EndedLook (itemsOf t).metadata). inl (metadata-ended (itemsOf t).metadata e)) (λ (e : (itemsOf t).metadata ≡ (itemsOf w).metadata). inr (ap metadataItem e)) c.1.1.1.0;
+        extra_info = c.1.1.0;
+        metadata = ⊎_elim (λ (e : EndedLook (items_of t).metadata). inl (metadata_ended_is (items_of t).metadata e)) (λ (e : (items_of t).metadata ≡ (items_of w).metadata). inr (ap metadata_item e)) c.1.1.1.0;
         sets =
-            ⊎_elim (λ (e : EndedSets (itemsOf t).sets). inl (sets-number (itemsOf t).sets.count (itemsOf t).sets.walk e, sets-served (itemsOf t).sets.count (itemsOf t).sets.walk e))
-            (λ (e : (itemsOf t).sets ≡ (itemsOf w).sets).
+            ⊎_elim (λ (e : EndedSets (items_of t).sets). inl (sets_number_is (items_of t).sets.count (items_of t).sets.walk e, sets_served (items_of t).sets.count (items_of t).sets.walk e))
+            (λ (e : (items_of t).sets ≡ (items_of w).sets).
             inr (
-              ap (λ (s : Sets). setsItem s.count s.walk) e,
-              ap (λ (s : Sets). setRows (setsOf s.walk)) e,
-              ap (λ (s : Sets). map romFront (romsOf (setsOf s.walk))) e,
+              ap (λ (s : Sets). sets_item s.count s.walk) e,
+              ap (λ (s : Sets). set_rows_of (sets_of s.walk)) e,
+              ap (λ (s : Sets). map rom_front (roms_of (sets_of s.walk))) e,
             ))
             c.1.1.1.1.0;
-        each-name = rw (← named) (λ i l. (l, name-kept (itemsOf t).names (itemsOf w).names c.1.1.1.1.1.0 i l));
+        each_name = rw (← named) (λ i l. (l, name_kept (items_of t).names (items_of w).names c.1.1.1.1.1.0 i l));
         pins = c.1.1.1.1.1.1;
       }
 
@@ -99,49 +99,49 @@ module _ (h : SdrrInfoHeader) (t w : ItemAnswers) (named : Named t) where
 -- refused or an item ended, given one name for each ROM row
 abbrev pub EndedAny : Opened → Type 0
 EndedAny (refused n) = Unit {0}
-EndedAny (opened r ss names) = length names ≡ length (romsOf ss) → EndedReport r ss names
+EndedAny (opened r ss names) = length names ≡ length (roms_of ss) → EndedReport r ss names
 
 -- as the two runs of the reads show it, before it is known that the whole opens
 abbrev pub Beside : Opened → Opened → Type 0
 Beside (refused n) w = (n ≡ 2) ⊎ (refused n ≡ w)
 Beside (opened r ss names) (refused m) = Unit {0}
-Beside (opened r ss names) (opened r' ss' names') = length names ≡ length (romsOf ss) → Kept r ss names r' ss' names'
+Beside (opened r ss names) (opened r' ss' names') = length names ≡ length (roms_of ss) → Kept r ss names r' ss' names'
 
-module _ (lentSets lentRoms : ℕ) where
+module _ (lent_sets lent_roms : ℕ) where
   -- an ended walk lists no set, so no row is short
-  room-ended : (w : Part (List RomSet)) → Ended w → (shortSets (setsOf w) lentSets ≡ false) × (shortRoms (setsOf w) lentRoms ≡ false)
-  unfolding romsOf
-  room-ended (stop n passed) e = (le-ltb lentSets 0 (omega arith), le-ltb lentRoms 0 (omega arith))
-  room-ended (found ss) e = absurd e
+  room_ended : (w : Part (List RomSet)) → Ended w → (short_sets (sets_of w) lent_sets ≡ false) × (short_roms (sets_of w) lent_roms ≡ false)
+  unfolding roms_of
+  room_ended (stop n passed) e = (le-ltb lent_sets 0 (omega arith), le-ltb lent_roms 0 (omega arith))
+  room_ended (found ss) e = absurd e
 
-  verdict-ended : (h : SdrrInfoHeader) (t : ItemAnswers) → EndedRow t → EndedAny (verdict lentSets lentRoms h (itemsOf t))
+  verdict_ended : (h : SdrrInfoHeader) (t : ItemAnswers) → EndedRow t → EndedAny (verdict lent_sets lent_roms h (items_of t))
   unfolding verdict
-  verdict-ended h t e = go (shortSets (setsOf (itemsOf t).sets.walk) lentSets) (shortRoms (setsOf (itemsOf t).sets.walk) lentRoms)
+  verdict_ended h t e = go (short_sets (sets_of (items_of t).sets.walk) lent_sets) (short_roms (sets_of (items_of t).sets.walk) lent_roms)
     where
       go : (a b : Bool)
-          → EndedAny (pick a (refused 44) (pick b (refused 45) (opened (reportOf h (itemsOf t)) (setsOf (itemsOf t).sets.walk) (itemsOf t).names)))
+          → EndedAny (pick a (refused 44) (pick b (refused 45) (opened (report_of h (items_of t)) (sets_of (items_of t).sets.walk) (items_of t).names)))
       go true b = tt
       go false true = tt
-      go false false = λ named. report-ended h t t named e
+      go false false = λ named. report_ended h t t named e
 
-  verdict-beside : (h : SdrrInfoHeader) (t w : ItemAnswers) → RowCut t w → Beside (verdict lentSets lentRoms h (itemsOf t)) (verdict lentSets lentRoms h (itemsOf w))
+  verdict_beside : (h : SdrrInfoHeader) (t w : ItemAnswers) → RowCut t w → Beside (verdict lent_sets lent_roms h (items_of t)) (verdict lent_sets lent_roms h (items_of w))
   unfolding verdict
-  verdict-beside h t w c =
+  verdict_beside h t w c =
       ⊎_elim
-      (λ (e : EndedSets (itemsOf t).sets).
-      let r = room-ended (itemsOf t).sets.walk e in
-      rw (r.0, r.1) (left (shortSets (setsOf (itemsOf w).sets.walk) lentSets) (shortRoms (setsOf (itemsOf w).sets.walk) lentRoms)))
-      (λ (e : (itemsOf t).sets ≡ (itemsOf w).sets).
-      let a : shortSets (setsOf (itemsOf t).sets.walk) lentSets ≡ shortSets (setsOf (itemsOf w).sets.walk) lentSets = ap (λ (s : Sets). shortSets (setsOf s.walk) lentSets) e in
-      let b : shortRoms (setsOf (itemsOf t).sets.walk) lentRoms ≡ shortRoms (setsOf (itemsOf w).sets.walk) lentRoms = ap (λ (s : Sets). shortRoms (setsOf s.walk) lentRoms) e in
-      rw (a, b) (same (shortSets (setsOf (itemsOf w).sets.walk) lentSets) (shortRoms (setsOf (itemsOf w).sets.walk) lentRoms)))
+      (λ (e : EndedSets (items_of t).sets).
+      let r = room_ended (items_of t).sets.walk e in
+      rw (r.0, r.1) (left (short_sets (sets_of (items_of w).sets.walk) lent_sets) (short_roms (sets_of (items_of w).sets.walk) lent_roms)))
+      (λ (e : (items_of t).sets ≡ (items_of w).sets).
+      let a : short_sets (sets_of (items_of t).sets.walk) lent_sets ≡ short_sets (sets_of (items_of w).sets.walk) lent_sets = ap (λ (s : Sets). short_sets (sets_of s.walk) lent_sets) e in
+      let b : short_roms (sets_of (items_of t).sets.walk) lent_roms ≡ short_roms (sets_of (items_of w).sets.walk) lent_roms = ap (λ (s : Sets). short_roms (sets_of s.walk) lent_roms) e in
+      rw (a, b) (same (short_sets (sets_of (items_of w).sets.walk) lent_sets) (short_roms (sets_of (items_of w).sets.walk) lent_roms)))
       c.1.1.1.1.0
     where
       this : Opened
-      this = opened (reportOf h (itemsOf t)) (setsOf (itemsOf t).sets.walk) (itemsOf t).names
+      this = opened (report_of h (items_of t)) (sets_of (items_of t).sets.walk) (items_of t).names
 
       whole : Opened
-      whole = opened (reportOf h (itemsOf w)) (setsOf (itemsOf w).sets.walk) (itemsOf w).names
+      whole = opened (report_of h (items_of w)) (sets_of (items_of w).sets.walk) (items_of w).names
 
       left : (a b : Bool) → Beside this (pick a (refused 44) (pick b (refused 45) whole))
       left true b = tt
@@ -155,38 +155,38 @@ module _ (lentSets lentRoms : ℕ) where
 
 -- ---- through the header
 
-module _ (s : Settings) (lentSets lentRoms : ℕ) where
-  abbrev restP : HeaderAnswer → Prog Opened
-  restP a =
-      mapP (λ t. verdict lentSets lentRoms a.header (itemsOf t))
-      (itemsP (baseAfter s.flash_base s.cs0_base a.header.fields.stm_line) a.header)
+module _ (s : Settings) (lent_sets lent_roms : ℕ) where
+  abbrev rest_p : HeaderAnswer → Prog Opened
+  rest_p a =
+      map_p (λ t. verdict lent_sets lent_roms a.header (items_of t))
+      (items_p (base_after s.flash_base s.cs0_base a.header.fields.stm_line) a.header)
 
-  rest-cut : (a : HeaderAnswer) → Cut EndedAny Beside (restP a) (restP a)
-  rest-cut a =
-      cut-map (λ t. verdict lentSets lentRoms a.header (itemsOf t)) (λ t. verdict lentSets lentRoms a.header (itemsOf t)) (row-cut _ a.header)
-      (verdict-ended lentSets lentRoms a.header) (verdict-beside lentSets lentRoms a.header)
+  rest_cut : (a : HeaderAnswer) → Cut EndedAny Beside (rest_p a) (rest_p a)
+  rest_cut a =
+      cut_map (λ t. verdict lent_sets lent_roms a.header (items_of t)) (λ t. verdict lent_sets lent_roms a.header (items_of t)) (row_cut _ a.header)
+      (verdict_ended lent_sets lent_roms a.header) (verdict_beside lent_sets lent_roms a.header)
 
-  after-same : (a : HeaderAnswer) → Cut EndedAny Beside (afterHeader s lentSets lentRoms a) (afterHeader s lentSets lentRoms a)
-  after-same a = go (eqb a.number 0)
+  after_same : (a : HeaderAnswer) → Cut EndedAny Beside (after_header s lent_sets lent_roms a) (after_header s lent_sets lent_roms a)
+  after_same a = go (eqb a.number 0)
     where
-      go : (b : Bool) → Cut EndedAny Beside (pick b (restP a) (done (refused a.number))) (pick b (restP a) (done (refused a.number)))
-      go true = rest-cut a
-      go false = cut-done (inr refl)
+      go : (b : Bool) → Cut EndedAny Beside (pick b (rest_p a) (done (refused a.number))) (pick b (rest_p a) (done (refused a.number)))
+      go true = rest_cut a
+      go false = cut_done (inr refl)
 
-  pub after-ended : (a : HeaderAnswer) → a.number ≡ 2 → (x : List ℕ) → run (afterHeader s lentSets lentRoms a) x ≡ refused 2
+  pub after_ended : (a : HeaderAnswer) → a.number ≡ 2 → (x : List ℕ) → run (after_header s lent_sets lent_roms a) x ≡ refused 2
   unfolding run
-  after-ended a e x = rw e refl
+  after_ended a e x = rw e refl
 
-  after-cut : (a b : HeaderAnswer) → OrEnded (λ (h : HeaderAnswer). h.number ≡ 2) a b → Cut EndedAny Beside (afterHeader s lentSets lentRoms a) (afterHeader s lentSets lentRoms b)
-  after-cut a b (inl e) =
+  after_cut : (a b : HeaderAnswer) → OrEnded (λ (h : HeaderAnswer). h.number ≡ 2) a b → Cut EndedAny Beside (after_header s lent_sets lent_roms a) (after_header s lent_sets lent_roms b)
+  after_cut a b (inl e) =
       record {
-        values = λ x k. subst (λ (o : Opened). Beside o (run (afterHeader s lentSets lentRoms b) x)) (sym (after-ended a e (take k x))) (inl refl);
-        takes = λ x k. inl (subst EndedAny (sym (after-ended a e (take k x))) tt);
+        values = λ x k. subst (λ (o : Opened). Beside o (run (after_header s lent_sets lent_roms b) x)) (sym (after_ended a e (take k x))) (inl refl);
+        takes = λ x k. inl (subst EndedAny (sym (after_ended a e (take k x))) tt);
       }
-  after-cut a b (inr e) = rw e (after-same b)
+  after_cut a b (inr e) = rw e (after_same b)
 
-  pub open-cut : Cut EndedAny Beside (openP s lentSets lentRoms) (openP s lentSets lentRoms)
-  unfolding openP
-  open-cut =
-      cut-bind (cut-honest (header-honest s.flash_base s.info_offset)) after-cut
-      (λ a e x. subst EndedAny (sym (after-ended a e x)) tt)
+  pub open_cut : Cut EndedAny Beside (open_p s lent_sets lent_roms) (open_p s lent_sets lent_roms)
+  unfolding open_p
+  open_cut =
+      cut_bind (cut_honest (header_honest s.flash_base s.info_offset)) after_cut
+      (λ a e x. subst EndedAny (sym (after_ended a e x)) tt)

@@ -3,25 +3,25 @@
 use Rattle.std.specs.Prelude.{ℕ, ◌≡◌, refl, ◌⊎◌, List, [], ◌∷◌, take}
 use Rattle.std.proofs.Common.{inl, inr, eq-eqb}
 use Rattle.prog.specs.Prog.{Prog, also, run}
-use Rattle.prog.specs.Laws.Run.{run-also}
+use Rattle.prog.specs.Laws.Run.{run_also}
 use Rattle.prog.specs.Laws.Cut.{Cut, OrEnded}
-use Rattle.prog.specs.Laws.Parts.{cut-done, cut-aside, cut-mono, cut-map, cut-also}
-use Rattle.prog.specs.Laws.Honest.{Honest, cut-honest, honest-kept, honest-done, honest-pick, honest-map, cut-after, cut-beside}
+use Rattle.prog.specs.Laws.Parts.{cut_done, cut_aside, cut_mono, cut_map, cut_also}
+use Rattle.prog.specs.Laws.Honest.{Honest, cut_honest, honest_kept, honest_done, honest_pick, honest_map, cut_after, cut_beside}
 use Rattle.text.specs.declared.Text.{Text}
 use Rattle.text.specs.Text as T
-use Rattle.text.specs.Laws.Chunks.{text-honest}
+use Rattle.text.specs.Laws.Chunks.{text_honest}
 use Rattle.header.specs.declared.SdrrInfoHeader.{SdrrInfoHeader}
 use Rattle.version.specs.Version.{from050}
 use Rattle.extra_info.specs.declared.ExtraInfoItem.{ExtraInfoItem}
-use Rattle.extra_info.specs.Laws.{extra-info-honest}
-use Rattle.metadata.specs.Laws.{metadata-honest}
+use Rattle.extra_info.specs.Laws.{extra_info_honest}
+use Rattle.metadata.specs.Laws.{metadata_honest}
 use Rattle.pins.specs.declared.PinsItem.{PinsItem}
-use Rattle.pins.specs.Pins.{pinsP}
-use Rattle.pins.specs.Laws.{pins-honest}
-use Rattle.walk.specs.Walk.{NameAt, noName, nameAt, Rom, RomSet, Part, stop, found, romsOf}
-use Rattle.walk.specs.Names.{nameP, namesP, walkNamesP}
-use Rattle.walk.specs.Laws.Ended.{Ended, walk-honest}
-use Rattle.fw_parser.specs.Opening.{Looked, notLookedFor, looked, lookP, metadataEnded, setCount, setsPointer, Sets, counted, setsItemP, ItemAnswers, itemsP}
+use Rattle.pins.specs.Pins.{pins_p}
+use Rattle.pins.specs.Laws.{pins_honest}
+use Rattle.walk.specs.Walk.{NameAt, no_name, name_at, Rom, RomSet, Part, stop, found, roms_of}
+use Rattle.walk.specs.Names.{name_p, names_p, walk_names_p}
+use Rattle.walk.specs.Laws.Ended.{Ended, walk_honest}
+use Rattle.fw_parser.specs.Opening.{Looked, not_looked_for, looked, look_p, metadata_ended, set_count, sets_pointer, Sets, counted, sets_item_p, ItemAnswers, items_p}
 
 -- ---- what is ended
 
@@ -35,7 +35,7 @@ abbrev pub EndedPins : PinsItem → Type 0
 EndedPins p = p.number ≡ 2
 
 abbrev pub EndedLook : Looked → Type 0
-EndedLook notLookedFor = ⊥
+EndedLook not_looked_for = ⊥
 EndedLook (looked m) = m.number ≡ 2
 
 abbrev pub EndedName : List Text → Type 0
@@ -50,45 +50,45 @@ NamesCut (t ∷ ts) (w ∷ ws) = OrEnded EndedText t w × NamesCut ts ws
 
 -- ---- names
 
-name-honest : (base : ℕ) (n : NameAt) → Honest EndedText (nameP base n)
-unfolding nameP
-name-honest base noName = honest-done
-name-honest base (nameAt pointer) = text-honest base pointer
+name_honest : (base : ℕ) (n : NameAt) → Honest EndedText (name_p base n)
+unfolding name_p
+name_honest base no_name = honest_done
+name_honest base (name_at pointer) = text_honest base pointer
 
-names-cut : (base : ℕ) (rs : List Rom) → Cut EndedName NamesCut (namesP base rs) (namesP base rs)
-unfolding namesP
-names-cut base [] = cut-done tt
-names-cut base (r ∷ rs) =
-    cut-map (λ t. t.0 ∷ t.1) (λ t. t.0 ∷ t.1)
-    (cut-also (cut-honest (name-honest base r.name)) (λ a b h. cut-mono (λ v e. inr e) (λ v w e. e) (names-cut base rs)))
+names_cut : (base : ℕ) (rs : List Rom) → Cut EndedName NamesCut (names_p base rs) (names_p base rs)
+unfolding names_p
+names_cut base [] = cut_done tt
+names_cut base (r ∷ rs) =
+    cut_map (λ t. t.0 ∷ t.1) (λ t. t.0 ∷ t.1)
+    (cut_also (cut_honest (name_honest base r.name)) (λ a b h. cut_mono (λ v e. inr e) (λ v w e. e) (names_cut base rs)))
     (λ t e. e) (λ t u e. e)
 
-walk-names-cut : (base : ℕ) (o : Part (List RomSet)) → Cut EndedName NamesCut (walkNamesP base o) (walkNamesP base o)
-unfolding walkNamesP
-walk-names-cut base (stop n passed) = cut-aside (namesP base passed) (namesP base passed) (cut-done tt)
-walk-names-cut base (found ss) = names-cut base (romsOf ss)
+walk_names_cut : (base : ℕ) (o : Part (List RomSet)) → Cut EndedName NamesCut (walk_names_p base o) (walk_names_p base o)
+unfolding walk_names_p
+walk_names_cut base (stop n passed) = cut_aside (names_p base passed) (names_p base passed) (cut_done tt)
+walk_names_cut base (found ss) = names_cut base (roms_of ss)
 
 -- ---- metadata, sets, names and pins
 
-look-honest : (base : ℕ) (h : SdrrInfoHeader) → Honest EndedLook (lookP base h)
-unfolding lookP
-look-honest base h =
-    honest-pick (from050 h.fields.version) (honest-map looked (metadata-honest base h.rom_sets_ptr) (λ m e. e)) honest-done
+look_honest : (base : ℕ) (h : SdrrInfoHeader) → Honest EndedLook (look_p base h)
+unfolding look_p
+look_honest base h =
+    honest_pick (from050 h.fields.version) (honest_map looked (metadata_honest base h.rom_sets_ptr) (λ m e. e)) honest_done
 
 abbrev pub EndedSets : Sets → Type 0
 EndedSets s = Ended s.walk
 
-sets-honest : (base : ℕ) (h : SdrrInfoHeader) (l : Looked) → Honest EndedSets (setsItemP base h l)
-unfolding setsItemP
-sets-honest base h l =
-    honest-map (counted (setCount h l))
-    (honest-pick (metadataEnded l) honest-done (walk-honest base h.fields (setCount h l) (setsPointer h l))) (λ w e. e)
+sets_honest : (base : ℕ) (h : SdrrInfoHeader) (l : Looked) → Honest EndedSets (sets_item_p base h l)
+unfolding sets_item_p
+sets_honest base h l =
+    honest_map (counted (set_count h l))
+    (honest_pick (metadata_ended l) honest_done (walk_honest base h.fields (set_count h l) (sets_pointer h l))) (λ w e. e)
 
 -- sets are marked ended where metadata ended
-sets-ended : (base : ℕ) (h : SdrrInfoHeader) (l : Looked) → EndedLook l → (x : List ℕ) → EndedSets (run (setsItemP base h l) x)
-unfolding setsItemP run
-sets-ended base h notLookedFor e x = absurd e
-sets-ended base h (looked m) e x = rw (eq-eqb m.number 2 e) refl
+sets_ended : (base : ℕ) (h : SdrrInfoHeader) (l : Looked) → EndedLook l → (x : List ℕ) → EndedSets (run (sets_item_p base h l) x)
+unfolding sets_item_p run
+sets_ended base h not_looked_for e x = absurd e
+sets_ended base h (looked m) e x = rw (eq-eqb m.number 2 e) refl
 
 -- names and pins behind the sets
 abbrev Tail : Type 0
@@ -100,28 +100,28 @@ EndedTail t = EndedName t.0 ⊎ EndedPins t.1
 abbrev TailCut : Tail → Tail → Type 0
 TailCut t u = NamesCut t.0 u.0 × OrEnded EndedPins t.1 u.1
 
-abbrev tailP : ℕ → SdrrInfoHeader → Sets → Prog Tail
-tailP base h o = also (walkNamesP base o.walk) λ names. pinsP base h.pins_ptr
+abbrev tail_p : ℕ → SdrrInfoHeader → Sets → Prog Tail
+tail_p base h o = also (walk_names_p base o.walk) λ names. pins_p base h.pins_ptr
 
-tail-cut : (base : ℕ) (h : SdrrInfoHeader) (o : Sets) → Cut EndedTail TailCut (tailP base h o) (tailP base h o)
-tail-cut base h o =
-    cut-also (walk-names-cut base o.walk) (λ a b r. cut-mono (λ v e. inr e) (λ v w e. e) (cut-honest (pins-honest base h.pins_ptr)))
+tail_cut : (base : ℕ) (h : SdrrInfoHeader) (o : Sets) → Cut EndedTail TailCut (tail_p base h o) (tail_p base h o)
+tail_cut base h o =
+    cut_also (walk_names_cut base o.walk) (λ a b r. cut_mono (λ v e. inr e) (λ v w e. e) (cut_honest (pins_honest base h.pins_ptr)))
 
 -- a refused walk shows no name
-no-names : (base : ℕ) (w : Part (List RomSet)) → Ended w → (x : List ℕ) (ws : List Text) → NamesCut (run (walkNamesP base w) x) ws
-unfolding walkNamesP run
-no-names base (stop n passed) e x ws = tt
-no-names base (found ss) e x ws = absurd e
+no_names : (base : ℕ) (w : Part (List RomSet)) → Ended w → (x : List ℕ) (ws : List Text) → NamesCut (run (walk_names_p base w) x) ws
+unfolding walk_names_p run
+no_names base (stop n passed) e x ws = tt
+no_names base (found ss) e x ws = absurd e
 
-tail-stopped : (base : ℕ) (h : SdrrInfoHeader) (a b : Sets) → EndedSets a → (x : List ℕ) (k : ℕ) → TailCut (run (tailP base h a) (take k x)) (run (tailP base h b) x)
-tail-stopped base h a b e x k =
-    rw (run-also (take k x) (walkNamesP base a.walk) (λ names. pinsP base h.pins_ptr), run-also x (walkNamesP base b.walk) (λ names. pinsP base h.pins_ptr))
-    (no-names base a.walk e (take k x) (run (walkNamesP base b.walk) x), honest-kept (pins-honest base h.pins_ptr) x k)
+tail_stopped : (base : ℕ) (h : SdrrInfoHeader) (a b : Sets) → EndedSets a → (x : List ℕ) (k : ℕ) → TailCut (run (tail_p base h a) (take k x)) (run (tail_p base h b) x)
+tail_stopped base h a b e x k =
+    rw (run_also (take k x) (walk_names_p base a.walk) (λ names. pins_p base h.pins_ptr), run_also x (walk_names_p base b.walk) (λ names. pins_p base h.pins_ptr))
+    (no_names base a.walk e (take k x) (run (walk_names_p base b.walk) x), honest_kept (pins_honest base h.pins_ptr) x k)
 
-tail-after : (base : ℕ) (h : SdrrInfoHeader) (a b : Sets) → OrEnded EndedSets a b
-    → Cut (λ v. EndedSets a ⊎ EndedTail v) TailCut (tailP base h a) (tailP base h b)
-tail-after base h a b (inl e) = record { values = λ x k. tail-stopped base h a b e x k; takes = λ x k. inl (inl e) }
-tail-after base h a b (inr e) = rw e (cut-mono (λ v i. inr i) (λ v w i. i) (tail-cut base h b))
+tail_after : (base : ℕ) (h : SdrrInfoHeader) (a b : Sets) → OrEnded EndedSets a b
+    → Cut (λ v. EndedSets a ⊎ EndedTail v) TailCut (tail_p base h a) (tail_p base h b)
+tail_after base h a b (inl e) = record { values = λ x k. tail_stopped base h a b e x k; takes = λ x k. inl (inl e) }
+tail_after base h a b (inr e) = rw e (cut_mono (λ v i. inr i) (λ v w i. i) (tail_cut base h b))
 
 abbrev SetsTail : Type 0
 SetsTail = Sets × Tail
@@ -132,10 +132,10 @@ EndedSetsTail t = EndedSets t.0 ⊎ EndedTail t.1
 abbrev SetsTailCut : SetsTail → SetsTail → Type 0
 SetsTailCut t u = OrEnded EndedSets t.0 u.0 × TailCut t.1 u.1
 
-sets-after : (base : ℕ) (h : SdrrInfoHeader) (l m : Looked) → OrEnded EndedLook l m
-    → Cut (λ v. EndedLook l ⊎ EndedSetsTail v) SetsTailCut (also (setsItemP base h l) λ s. tailP base h s) (also (setsItemP base h m) λ s. tailP base h s)
-sets-after base h l m r =
-    cut-mono (λ v e. inr e) (λ v w e. e) (cut-also (cut-after (sets-honest base h) (sets-ended base h) l m r) (tail-after base h))
+sets_after_is : (base : ℕ) (h : SdrrInfoHeader) (l m : Looked) → OrEnded EndedLook l m
+    → Cut (λ v. EndedLook l ⊎ EndedSetsTail v) SetsTailCut (also (sets_item_p base h l) λ s. tail_p base h s) (also (sets_item_p base h m) λ s. tail_p base h s)
+sets_after_is base h l m r =
+    cut_mono (λ v e. inr e) (λ v w e. e) (cut_also (cut_after (sets_honest base h) (sets_ended base h) l m r) (tail_after base h))
 
 -- ---- all items
 
@@ -150,10 +150,10 @@ RowCut t w =
     × (OrEnded EndedExtra t.1.1.0 w.1.1.0
     × (OrEnded EndedLook t.1.1.1.0 w.1.1.1.0 × SetsTailCut t.1.1.1.1 w.1.1.1.1)))
 
-pub row-cut : (base : ℕ) (h : SdrrInfoHeader) → Cut EndedRow RowCut (itemsP base h) (itemsP base h)
-unfolding itemsP
-row-cut base h =
-    cut-beside (text-honest base h.build_date_ptr)
-    (cut-beside (text-honest base h.hw_rev_ptr)
-    (cut-beside (extra-info-honest base h.extra_ptr h.fields.version)
-    (cut-also (cut-honest (look-honest base h)) (sets-after base h))))
+pub row_cut : (base : ℕ) (h : SdrrInfoHeader) → Cut EndedRow RowCut (items_p base h) (items_p base h)
+unfolding items_p
+row_cut base h =
+    cut_beside (text_honest base h.build_date_ptr)
+    (cut_beside (text_honest base h.hw_rev_ptr)
+    (cut_beside (extra_info_honest base h.extra_ptr h.fields.version)
+    (cut_also (cut_honest (look_honest base h)) (sets_after_is base h))))

@@ -1,28 +1,28 @@
 use Rattle.std.proofs.Common.{false, refl, sym, ap, ◌∙◌}
-use Rattle.info.specs.Lent.{lentBy}
+use Rattle.info.specs.Lent.{lent_by}
 use Rattle.info.specs.Reads.{byte}
 use Rattle.byte_reads.specs.declared.ByteRead.{ByteRead}
-use Rattle.byte_reads.specs.Calls.{byteOf}
-use Rattle.jobs.specs.Laws.Tested.{none-read, none-left, its-read, its-left}
+use Rattle.byte_reads.specs.Calls.{byte_of}
+use Rattle.jobs.specs.Laws.Tested.{none_read, none_left, its_read, its_left}
 use Rattle.job_reads.proofs.read_rom_byte_raw.Goals as goal
 
 pub returns-then-not-is_job-clause-reply : goal.returns-then-not-is_job-clause-reply
 returns-then-not-is_job-clause-reply c =
     let a = c.args in
-    c.no_byte.ensures ∙ ap byteOf (none-read a.board.flash_base a.board.cs0_base (lentBy a.board a.set_rows.now a.rom_rows.now) a.job a.counts.now (byte a.set a.address false) a.image.now (sym c.is_job.ensures ∙ c.if-not-is_job.true) c.told-counts _ refl)
+    c.no_byte.ensures ∙ ap byte_of (none_read a.board.flash_base a.board.cs0_base (lent_by a.board a.set_rows.now a.rom_rows.now) a.job a.counts.now (byte a.set a.address false) a.image.now (sym c.is_job.ensures ∙ c.if-not-is_job.true) c.told-counts _ refl)
 
 pub returns-then-not-is_job-clause-counts : goal.returns-then-not-is_job-clause-counts
 returns-then-not-is_job-clause-counts c =
     let a = c.args in
-    none-left a.board.flash_base a.board.cs0_base (lentBy a.board a.set_rows.now a.rom_rows.now) a.job a.counts.now (byte a.set a.address false) a.image.now (sym c.is_job.ensures ∙ c.if-not-is_job.true)
+    none_left a.board.flash_base a.board.cs0_base (lent_by a.board a.set_rows.now a.rom_rows.now) a.job a.counts.now (byte a.set a.address false) a.image.now (sym c.is_job.ensures ∙ c.if-not-is_job.true)
 
 pub returns-clause-reply : goal.returns-clause-reply
 returns-clause-reply c =
     let a = c.args in
-    c.byte_raw_on_count-raw.ensures ∙ ap byteOf (its-read a.board.flash_base a.board.cs0_base (lentBy a.board a.set_rows.now a.rom_rows.now) a.job a.counts.now (byte a.set a.address false) a.image.now (sym c.is_job.ensures ∙ c.if-not-is_job.false) _ c.count_of-before.ensures)
+    c.byte_raw_on_count-raw.ensures ∙ ap byte_of (its_read a.board.flash_base a.board.cs0_base (lent_by a.board a.set_rows.now a.rom_rows.now) a.job a.counts.now (byte a.set a.address false) a.image.now (sym c.is_job.ensures ∙ c.if-not-is_job.false) _ c.count_of-before.ensures)
 
 pub returns-clause-counts : goal.returns-clause-counts
 returns-clause-counts c =
     let a = c.args in
-    its-left a.board.flash_base a.board.cs0_base (lentBy a.board a.set_rows.now a.rom_rows.now) a.job a.counts.now (byte a.set a.address false) a.image.now (sym c.is_job.ensures ∙ c.if-not-is_job.false) _ c.count_of-before.ensures
+    its_left a.board.flash_base a.board.cs0_base (lent_by a.board a.set_rows.now a.rom_rows.now) a.job a.counts.now (byte a.set a.address false) a.image.now (sym c.is_job.ensures ∙ c.if-not-is_job.false) _ c.count_of-before.ensures
     _ (ap (λ (t : ByteRead). t.count) c.byte_raw_on_count-raw.ensures) _ c.leave.ensures

@@ -3,25 +3,25 @@
 use Rattle.std.specs.Prelude.{ℕ, ◌≡◌, refl, List}
 use Rattle.std.proofs.Common.{sym, ap, ◌∙◌}
 use Rattle.info.specs.Lent.{Lent}
-use Rattle.info.specs.Reads.{RomRead, Reply, romRead}
-use Rattle.job_counts.specs.Counts.{countOf}
-use Rattle.jobs.specs.Jobs.{jobRead}
-use Rattle.jobs.specs.Laws.Steps.{accepted-job, job-read}
+use Rattle.info.specs.Reads.{RomRead, Reply, rom_read}
+use Rattle.job_counts.specs.Counts.{count_of}
+use Rattle.jobs.specs.Jobs.{job_read}
+use Rattle.jobs.specs.Laws.Steps.{accepted_job, job_read_is}
 
-module _ (flashBase cs0Base : ℕ) (l m : Lent) (r q : RomRead) (job : ℕ) (counts : List ℕ) where
+module _ (flash_base cs0_base : ℕ) (l m : Lent) (r q : RomRead) (job : ℕ) (counts : List ℕ) where
   -- two reads that get the same reply at every count
-  pub job-same : (x : List ℕ) → ((count : ℕ) → romRead flashBase cs0Base l count r x ≡ romRead flashBase cs0Base m count q x)
-      → jobRead flashBase cs0Base l job counts r x ≡ jobRead flashBase cs0Base m job counts q x
-  unfolding jobRead
-  job-same x same = rw (same (countOf job counts)) refl
+  pub job_same : (x : List ℕ) → ((count : ℕ) → rom_read flash_base cs0_base l count r x ≡ rom_read flash_base cs0_base m count q x)
+      → job_read flash_base cs0_base l job counts r x ≡ job_read flash_base cs0_base m job counts q x
+  unfolding job_read
+  job_same x same = rw (same (count_of job counts)) refl
 
   -- a read whose accepted replies another read gets too
-  pub job-kept : (x y : List ℕ)
-      → ((count : ℕ) → (romRead flashBase cs0Base l count r x).number ≡ 0 → romRead flashBase cs0Base m count q y ≡ romRead flashBase cs0Base l count r x)
-      → (jobRead flashBase cs0Base l job counts r x).number ≡ 0 → jobRead flashBase cs0Base m job counts q y ≡ jobRead flashBase cs0Base l job counts r x
-  job-kept x y kept e =
-      let below = accepted-job flashBase cs0Base l job counts r x e in
-      let here = job-read flashBase cs0Base l job counts r x below in
-      job-read flashBase cs0Base m job counts q y below
-      ∙ kept (countOf job counts) (ap (λ (t : Reply). t.number) (sym here) ∙ e)
+  pub job_kept : (x y : List ℕ)
+      → ((count : ℕ) → (rom_read flash_base cs0_base l count r x).number ≡ 0 → rom_read flash_base cs0_base m count q y ≡ rom_read flash_base cs0_base l count r x)
+      → (job_read flash_base cs0_base l job counts r x).number ≡ 0 → job_read flash_base cs0_base m job counts q y ≡ job_read flash_base cs0_base l job counts r x
+  job_kept x y kept e =
+      let below = accepted_job flash_base cs0_base l job counts r x e in
+      let here = job_read_is flash_base cs0_base l job counts r x below in
+      job_read_is flash_base cs0_base m job counts q y below
+      ∙ kept (count_of job counts) (ap (λ (t : Reply). t.number) (sym here) ∙ e)
       ∙ sym here

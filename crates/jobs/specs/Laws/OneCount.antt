@@ -2,39 +2,39 @@
 -- Assumes nothing.
 use Rattle.std.specs.Prelude.{ℕ, ◌<◌, ◌≡◌, refl, true, List, length}
 use Rattle.std.proofs.Common.{ap, ◌∙◌, eqb-true}
-use Rattle.machine.specs.Machine.{stateAfter, replies, repliesOf, callsOf}
-use Rattle.machine.specs.Laws.Follow.{Follows, follow-replies, follow-after}
+use Rattle.machine.specs.Machine.{state_after, replies, replies_of, calls_of}
+use Rattle.machine.specs.Laws.Follow.{Follows, follow_replies, follow_after}
 use Rattle.info.specs.Reads.{Reply}
-use Rattle.job_counts.specs.Counts.{countOf}
-use Rattle.jobs.specs.Histories.{JobCall, readReplyOf, oneReplyOf, jobReply, jobsBy, onOneCount, ofJob}
-use Rattle.jobs.specs.Laws.Steps.{job-read}
-use Rattle.jobs.specs.Laws.OneCall.{other-left}
-use Rattle.jobs.specs.Laws.History.{eight-stay, left-own}
+use Rattle.job_counts.specs.Counts.{count_of}
+use Rattle.jobs.specs.Histories.{JobCall, read_reply_of, one_reply_of, job_reply, jobs_by, on_one_count, of_job}
+use Rattle.jobs.specs.Laws.Steps.{job_read_is}
+use Rattle.jobs.specs.Laws.OneCall.{other_left}
+use Rattle.jobs.specs.Laws.History.{eight_stay, left_own}
 
 module _ {C : Type 0} (call : C → JobCall) where
   module _ (j : ℕ) (below : j < 8) where
     -- there are eight counts, and the job's is the one
     record Its (counts : List ℕ) (count : ℕ) : Type 0 where
       eight : length counts ≡ 8
-      its : countOf j counts ≡ count
+      its : count_of j counts ≡ count
 
-    job-follows : Follows (jobsBy call) (onOneCount call) (ofJob call j) Its
-    job-follows = record {
-      others-keep = λ c s n e a. record { eight = eight-stay call c s a.eight; its = other-left (call c).job s (readReplyOf (call c) s) j e ∙ a.its };
-      same-reply = λ c s n e a. ap (jobReply (call c)) (same c s n e a);
-      own-keep = λ c s n e a. record { eight = eight-stay call c s a.eight; its = left-own call j below c s a.eight (eqb-true (call c).job j e) ∙ ap (λ (t : Reply). t.count) (same c s n e a) };
+    job_follows : Follows (jobs_by call) (on_one_count call) (of_job call j) Its
+    job_follows = record {
+      others_keep = λ c s n e a. record { eight = eight_stay call c s a.eight; its = other_left (call c).job s (read_reply_of (call c) s) j e ∙ a.its };
+      same_reply = λ c s n e a. ap (job_reply (call c)) (same c s n e a);
+      own_keep = λ c s n e a. record { eight = eight_stay call c s a.eight; its = left_own call j below c s a.eight (eqb-true (call c).job j e) ∙ ap (λ (t : Reply). t.count) (same c s n e a) };
     }
       where
-        same : (c : C) (s : List ℕ) (n : ℕ) → ofJob call j c ≡ true → Its s n → readReplyOf (call c) s ≡ oneReplyOf (call c) n
+        same : (c : C) (s : List ℕ) (n : ℕ) → of_job call j c ≡ true → Its s n → read_reply_of (call c) s ≡ one_reply_of (call c) n
         same c s n e a =
             let own = eqb-true (call c).job j e in
-            job-read (call c).flashBase (call c).cs0Base (call c).lent (call c).job s (call c).read (call c).image (rw own below)
-            ∙ ap (oneReplyOf (call c)) (rw own a.its)
+            job_read_is (call c).flash_base (call c).cs0_base (call c).lent (call c).job s (call c).read (call c).image (rw own below)
+            ∙ ap (one_reply_of (call c)) (rw own a.its)
 
-    pub as-on-one-count : (counts : List ℕ) → length counts ≡ 8 → (h : List C)
-        → repliesOf (ofJob call j) h (replies (jobsBy call) counts h) ≡ replies (onOneCount call) (countOf j counts) (callsOf (ofJob call j) h)
-    as-on-one-count counts e h = follow-replies job-follows counts (countOf j counts) h (record { eight = e; its = refl })
+    pub as_on_one_count : (counts : List ℕ) → length counts ≡ 8 → (h : List C)
+        → replies_of (of_job call j) h (replies (jobs_by call) counts h) ≡ replies (on_one_count call) (count_of j counts) (calls_of (of_job call j) h)
+    as_on_one_count counts e h = follow_replies job_follows counts (count_of j counts) h (record { eight = e; its = refl })
 
-    pub count-as-one : (counts : List ℕ) → length counts ≡ 8 → (h : List C)
-        → countOf j (stateAfter (jobsBy call) counts h) ≡ stateAfter (onOneCount call) (countOf j counts) (callsOf (ofJob call j) h)
-    count-as-one counts e h = (follow-after job-follows counts (countOf j counts) h (record { eight = e; its = refl })).its
+    pub count_as_one : (counts : List ℕ) → length counts ≡ 8 → (h : List C)
+        → count_of j (state_after (jobs_by call) counts h) ≡ state_after (on_one_count call) (count_of j counts) (calls_of (of_job call j) h)
+    count_as_one counts e h = (follow_after job_follows counts (count_of j counts) h (record { eight = e; its = refl })).its

@@ -1,6 +1,6 @@
 use Rattle.std.proofs.Common.{◌≡◌, ◌-◌, ◌*◌, ◌≤◌}
-use Rattle.walk.specs.Rows.{countsOf}
-use Rattle.walk.specs.Code.Passes.{setsNumber, setAddress, setsAt}
+use Rattle.walk.specs.Rows.{counts_of}
+use Rattle.walk.specs.Code.Passes.{sets_number, set_address, sets_at}
 use Rattle.judge_walk.proofs.judge_sets.Given as goal
 
 -- Before set i, also in a walk that is refused later:
@@ -11,9 +11,9 @@ use Rattle.judge_walk.proofs.judge_sets.Given as goal
 abbrev pub invariant-loop-i : goal.invariant-loop-i
 invariant-loop-i l =
     record {
-      total_is_sum : l.total ≡ countsOf (setsAt l.image l.base l.filenames l.long l.ptr l.i);
-      address_is_set : l.address ≡ setAddress l.image l.base l.long l.ptr l.i;
-      none_refused : setsNumber l.image l.base l.filenames l.long l.ptr l.i ≡ 0;
+      total_is_sum : l.total ≡ counts_of (sets_at l.image l.base l.filenames l.long l.ptr l.i);
+      address_is_set : l.address ≡ set_address l.image l.base l.long l.ptr l.i;
+      none_refused : sets_number l.image l.base l.filenames l.long l.ptr l.i ≡ 0;
       total_fits : l.total ≤ 255 * l.i;
       in_count : l.i ≤ l.count;
     }

@@ -6,107 +6,107 @@ use Rattle.types.specs.declared.McuLine.{McuLine}
 use Rattle.types.specs.declared.SdrrCsSet.{SdrrCsSet}
 use Rattle.std.proofs.lemmas.Bool.{eqb-false}
 use Rattle.base.specs.Laws.{cases}
-use Rattle.window.specs.Window.{baseAfter, beyondWindow}
+use Rattle.window.specs.Window.{base_after, beyond_window}
 use Rattle.prog.specs.Prog.{Prog, run}
 use Rattle.rows.specs.declared.SetWord.{SetWord}
-use Rattle.rows.specs.LentRows.{setRowLength, romRowLength, setPlace, setWord, hasSetRow, hasRomRow, firstRom, romCount, typeWord}
-use Rattle.governing.specs.Governing.{governing, governingOwn}
-use Rattle.info.specs.Lent.{Lent, mangledBy, mangleOwn}
-use Rattle.info.specs.Reads.{Bytes, own, ownPhysical, shownByte, dataP, storedP, finished, readReply, romRead}
-use Rattle.info.specs.Laws.Calls.{read-beyond, read-within}
-use Rattle.own_reads.specs.Laws.Numbers.{leads-without-rom}
+use Rattle.rows.specs.LentRows.{set_row_length, rom_row_length, set_place, set_word, has_set_row, has_rom_row, first_rom, rom_count, type_word}
+use Rattle.governing.specs.Governing.{governing, governing_own}
+use Rattle.info.specs.Lent.{Lent, mangled_by, mangle_own}
+use Rattle.info.specs.Reads.{Bytes, own, own_physical, shown_byte, data_p, stored_p, finished, read_reply, rom_read}
+use Rattle.info.specs.Laws.Calls.{read_beyond, read_within}
+use Rattle.own_reads.specs.Laws.Numbers.{leads_without_rom}
 
 -- alike in the line, the pins, the sets served, the named set's row and, where it has ROMs, its first ROM row's type: lent in both or in neither
 pub record AlikeFor (i : ℕ) (l m : Lent) : Type 0 where
   pub lines : l.line ≡ m.line
   pub pins : l.pins ≡ m.pins
   pub served : l.served ≡ m.served
-  pub row-lent : hasSetRow l.setWords i ≡ hasSetRow m.setWords i
-  pub row : (word : SetWord) → setWord l.setWords i word ≡ setWord m.setWords i word
-  pub rom-row-lent : (romCount l.setWords i ≡ 0 → ⊥) → hasRomRow l.romWords (firstRom l.setWords i) ≡ hasRomRow m.romWords (firstRom l.setWords i)
-  pub type : (romCount l.setWords i ≡ 0 → ⊥) → typeWord l.romWords (firstRom l.setWords i) ≡ typeWord m.romWords (firstRom l.setWords i)
+  pub row_lent : has_set_row l.set_words i ≡ has_set_row m.set_words i
+  pub row : (word : SetWord) → set_word l.set_words i word ≡ set_word m.set_words i word
+  pub rom_row_lent : (rom_count l.set_words i ≡ 0 → ⊥) → has_rom_row l.rom_words (first_rom l.set_words i) ≡ has_rom_row m.rom_words (first_rom l.set_words i)
+  pub type : (rom_count l.set_words i ≡ 0 → ⊥) → type_word l.rom_words (first_rom l.set_words i) ≡ type_word m.rom_words (first_rom l.set_words i)
 
 module _ {i : ℕ} {l m : Lent} (alike : AlikeFor i l m) (address : ℕ) (levels : SdrrCsSet) where
   -- with ROMs by the type of the first one; without, 74 whatever the ROM rows hold
-  some-roms : (romCount l.setWords i ≡ 0 → ⊥) → ownPhysical l i address levels ≡ ownPhysical m i address levels
-  unfolding mangleOwn mangledBy governingOwn governing
-  some-roms some =
-      rw (alike.type some, alike.rom-row-lent some, alike.row SetWord.FirstRom, alike.row SetWord.RomCount, alike.row-lent, alike.served, alike.pins)
+  some_roms : (rom_count l.set_words i ≡ 0 → ⊥) → own_physical l i address levels ≡ own_physical m i address levels
+  unfolding mangle_own mangled_by governing_own governing
+  some_roms some =
+      rw (alike.type some, alike.rom_row_lent some, alike.row SetWord.FirstRom, alike.row SetWord.RomCount, alike.row_lent, alike.served, alike.pins)
 
-  no-roms : romCount l.setWords i ≡ 0 → ownPhysical l i address levels ≡ ownPhysical m i address levels
-  no-roms none =
-      let none' : romCount m.setWords i ≡ 0 = sym (alike.row SetWord.RomCount) ∙ none in
-      leads-without-rom l i address levels none
-      ∙ rw (alike.served, alike.row-lent, alike.pins) (sym (leads-without-rom m i address levels none'))
+  no_roms : rom_count l.set_words i ≡ 0 → own_physical l i address levels ≡ own_physical m i address levels
+  no_roms none =
+      let none' : rom_count m.set_words i ≡ 0 = sym (alike.row SetWord.RomCount) ∙ none in
+      leads_without_rom l i address levels none
+      ∙ rw (alike.served, alike.row_lent, alike.pins) (sym (leads_without_rom m i address levels none'))
 
-  leads-alike : ownPhysical l i address levels ≡ ownPhysical m i address levels
-  leads-alike = cases (eqb (romCount l.setWords i) 0) (λ h. no-roms (eqb-true _ 0 h)) (λ h. some-roms (eqb-false _ 0 h))
+  leads_alike : own_physical l i address levels ≡ own_physical m i address levels
+  leads_alike = cases (eqb (rom_count l.set_words i) 0) (λ h. no_roms (eqb-true _ 0 h)) (λ h. some_roms (eqb-false _ 0 h))
 
-  stored-alike : (base : ℕ) → storedP base l (own i address levels) ≡ storedP base m (own i address levels)
-  unfolding storedP dataP
-  stored-alike base = rw (leads-alike, alike.row SetWord.DataPointer, alike.row SetWord.Size, alike.row-lent, alike.served)
+  stored_alike : (base : ℕ) → stored_p base l (own i address levels) ≡ stored_p base m (own i address levels)
+  unfolding stored_p data_p
+  stored_alike base = rw (leads_alike, alike.row SetWord.DataPointer, alike.row SetWord.Size, alike.row_lent, alike.served)
 
-  finished-alike : (count : ℕ) (b : Bytes) → finished l count (own i address levels) b ≡ finished m count (own i address levels) b
-  unfolding finished shownByte
-  finished-alike count b = rw alike.pins
+  finished_alike : (count : ℕ) (b : Bytes) → finished l count (own i address levels) b ≡ finished m count (own i address levels) b
+  unfolding finished shown_byte
+  finished_alike count b = rw alike.pins
 
   -- the reply goes by nothing else
-  pub own-looks : (flashBase cs0Base count : ℕ) (x : List ℕ)
-      → romRead flashBase cs0Base l count (own i address levels) x ≡ romRead flashBase cs0Base m count (own i address levels) x
-  own-looks flashBase cs0Base count x =
+  pub own_looks : (flash_base cs0_base count : ℕ) (x : List ℕ)
+      → rom_read flash_base cs0_base l count (own i address levels) x ≡ rom_read flash_base cs0_base m count (own i address levels) x
+  own_looks flash_base cs0_base count x =
       let r = own i address levels in
-      let base = baseAfter flashBase cs0Base l.line in
-      let stored : storedP base l r ≡ storedP (baseAfter flashBase cs0Base m.line) m r = stored-alike base ∙ ap (λ (line : McuLine). storedP (baseAfter flashBase cs0Base line) m r) alike.lines in
-      cases (beyondWindow flashBase cs0Base x)
-      (λ h. read-beyond flashBase cs0Base l count x r h ∙ sym (read-beyond flashBase cs0Base m count x r h))
+      let base = base_after flash_base cs0_base l.line in
+      let stored : stored_p base l r ≡ stored_p (base_after flash_base cs0_base m.line) m r = stored_alike base ∙ ap (λ (line : McuLine). stored_p (base_after flash_base cs0_base line) m r) alike.lines in
+      cases (beyond_window flash_base cs0_base x)
+      (λ h. read_beyond flash_base cs0_base l count x r h ∙ sym (read_beyond flash_base cs0_base m count x r h))
       (λ h.
-      read-within flashBase cs0Base l count x r h ∙ ap (readReply count r) (finished-alike count (run (storedP base l r) x))
-      ∙ ap (λ (p : Prog Bytes). readReply count r (finished m count r (run p x))) stored ∙ sym (read-within flashBase cs0Base m count x r h))
+      read_within flash_base cs0_base l count x r h ∙ ap (read_reply count r) (finished_alike count (run (stored_p base l r) x))
+      ∙ ap (λ (p : Prog Bytes). read_reply count r (finished m count r (run p x))) stored ∙ sym (read_within flash_base cs0_base m count x r h))
 
 -- ---- so any word of another set's row, set 0's if it is not named, and any ROM word but that one type may be altered
 
-place-inside : (w : SetWord) → setPlace w < setRowLength
-place-inside SetWord.DataPointer = omega arith
-place-inside SetWord.Size = omega arith
-place-inside SetWord.FirstRom = omega arith
-place-inside SetWord.RomCount = omega arith
-place-inside SetWord.Serve = omega arith
-place-inside SetWord.State = omega arith
-place-inside SetWord.Config = omega arith
-place-inside SetWord.Overrides = omega arith
+place_inside : (w : SetWord) → set_place w < set_row_length
+place_inside SetWord.DataPointer = omega arith
+place_inside SetWord.Size = omega arith
+place_inside SetWord.FirstRom = omega arith
+place_inside SetWord.RomCount = omega arith
+place_inside SetWord.Serve = omega arith
+place_inside SetWord.State = omega arith
+place_inside SetWord.Config = omega arith
+place_inside SetWord.Overrides = omega arith
 
-module _ (l : Lent) (i k word address : ℕ) (levels : SdrrCsSet) (flashBase cs0Base count : ℕ) (x : List ℕ) where
-  outside-row : (k < setRowLength * i) ⊎ (setRowLength * i + setRowLength ≤ k) → (w : SetWord) → (setRowLength * i + setPlace w ≡ k → ⊥)
-  outside-row (inl h) w e = let p = place-inside w in omega arith
-  outside-row (inr h) w e = let p = place-inside w in omega arith
+module _ (l : Lent) (i k word address : ℕ) (levels : SdrrCsSet) (flash_base cs0_base count : ℕ) (x : List ℕ) where
+  outside_row : (k < set_row_length * i) ⊎ (set_row_length * i + set_row_length ≤ k) → (w : SetWord) → (set_row_length * i + set_place w ≡ k → ⊥)
+  outside_row (inl h) w e = let p = place_inside w in omega arith
+  outside_row (inr h) w e = let p = place_inside w in omega arith
 
-  pub other-row-altered : (k < setRowLength * i) ⊎ (setRowLength * i + setRowLength ≤ k)
-      → romRead flashBase cs0Base (record { line = l.line; pins = l.pins; served = l.served; setWords = set l.setWords k word; romWords = l.romWords }) count (own i address levels) x
-      ≡ romRead flashBase cs0Base l count (own i address levels) x
-  other-row-altered h =
-      let kept : (w : SetWord) → setWord (set l.setWords k word) i w ≡ setWord l.setWords i w = λ w. get_or-set_other l.setWords k (setRowLength * i + setPlace w) word 0 (outside-row h w) in
-      own-looks
+  pub other_row_altered : (k < set_row_length * i) ⊎ (set_row_length * i + set_row_length ≤ k)
+      → rom_read flash_base cs0_base (record { line = l.line; pins = l.pins; served = l.served; set_words = set l.set_words k word; rom_words = l.rom_words }) count (own i address levels) x
+      ≡ rom_read flash_base cs0_base l count (own i address levels) x
+  other_row_altered h =
+      let kept : (w : SetWord) → set_word (set l.set_words k word) i w ≡ set_word l.set_words i w = λ w. get_or-set_other l.set_words k (set_row_length * i + set_place w) word 0 (outside_row h w) in
+      own_looks
       (record {
         lines = refl;
         pins = refl;
         served = refl;
-        row-lent = rw (length-set l.setWords k word);
+        row_lent = rw (length-set l.set_words k word);
         row = kept;
-        rom-row-lent = λ some. refl;
+        rom_row_lent = λ some. refl;
         type = λ some. refl;
-      }) address levels flashBase cs0Base count x
+      }) address levels flash_base cs0_base count x
 
-  pub other-rom-word-altered : (k ≡ romRowLength * firstRom l.setWords i → ⊥)
-      → romRead flashBase cs0Base (record { line = l.line; pins = l.pins; served = l.served; setWords = l.setWords; romWords = set l.romWords k word }) count (own i address levels) x
-      ≡ romRead flashBase cs0Base l count (own i address levels) x
-  other-rom-word-altered h =
-      own-looks
+  pub other_rom_word_altered : (k ≡ rom_row_length * first_rom l.set_words i → ⊥)
+      → rom_read flash_base cs0_base (record { line = l.line; pins = l.pins; served = l.served; set_words = l.set_words; rom_words = set l.rom_words k word }) count (own i address levels) x
+      ≡ rom_read flash_base cs0_base l count (own i address levels) x
+  other_rom_word_altered h =
+      own_looks
       (record {
         lines = refl;
         pins = refl;
         served = refl;
-        row-lent = refl;
+        row_lent = refl;
         row = λ w. refl;
-        rom-row-lent = λ some. rw (length-set l.romWords k word);
-        type = λ some. get_or-set_other l.romWords k (romRowLength * firstRom l.setWords i + 0) word 0 (λ e. h (omega arith));
-      }) address levels flashBase cs0Base count x
+        rom_row_lent = λ some. rw (length-set l.rom_words k word);
+        type = λ some. get_or-set_other l.rom_words k (rom_row_length * first_rom l.set_words i + 0) word 0 (λ e. h (omega arith));
+      }) address levels flash_base cs0_base count x

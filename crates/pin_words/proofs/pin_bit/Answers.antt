@@ -1,8 +1,8 @@
 use Rattle.std.proofs.Common.{◌+◌, ◌-◌, arith}
-use Rattle.pin_words.specs.Laws.{top-shr}
+use Rattle.pin_words.specs.Laws.{top_shr}
 use Rattle.pin_words.proofs.pin_bit.Goals as goal
 
 pub returns : goal.returns
 returns c =
     let a = c.args in
-    top-shr (a.pin + 15 - a.top) (a.top - a.pin) (omega arith)
+    top_shr (a.pin + 15 - a.top) (a.top - a.pin) (omega arith)

@@ -3,47 +3,47 @@
 use Rattle.std.specs.Prelude.{ℕ, ◌+◌, ◌-◌, ◌≤◌, ◌<◌, ◌≡◌, ◌⊎◌, List, length, take}
 use Rattle.std.proofs.Common.{arith, ap, sym, subst, ◌∙◌, inl, inr, ⊎_elim, length-take, get_or-take}
 use Rattle.window.specs.Laws.{Inside}
-use Rattle.prog.specs.Prog.{failed, Prog, done, read, unshown, answer, run, Span, taken, trace, endOf, reach}
-use Rattle.prog.specs.Laws.Read.{answer-inside, inside-or-failed}
-use Rattle.prog.specs.Laws.Reach.{end-here, end-there, reach-length}
-use Rattle.prog.specs.Laws.Agree.{Alike, alike-done, alike-read, alike-unshown, same-answer}
+use Rattle.prog.specs.Prog.{failed, Prog, done, read, unshown, answer, run, Span, taken, trace, end_of, reach}
+use Rattle.prog.specs.Laws.Read.{answer_inside, inside_or_failed}
+use Rattle.prog.specs.Laws.Reach.{end_here, end_there, reach_length}
+use Rattle.prog.specs.Laws.Agree.{Alike, alike_done, alike_read, alike_unshown, same_answer}
 
 -- ---- one read
 
 module _ (x : List ℕ) (k base a n : ℕ) where
   -- a read that the front part allows, the whole allows; the other way round it must end within the front part
-  pub inside-whole : Inside (take k x) base a n → Inside x base a n
-  inside-whole i = record { from = i.from; word = i.word; upto = omega (arith, length-take k x) }
+  pub inside_whole : Inside (take k x) base a n → Inside x base a n
+  inside_whole i = record { from = i.from; word = i.word; upto = omega (arith, length-take k x) }
 
-  inside-front : Inside x base a n → a - base + n ≤ k → Inside (take k x) base a n
-  inside-front i h = record { from = i.from; word = i.word; upto = simp length-take (omega arith) }
+  inside_front : Inside x base a n → a - base + n ≤ k → Inside (take k x) base a n
+  inside_front i h = record { from = i.from; word = i.word; upto = simp length-take (omega arith) }
 
   -- a read that ends within the front part gives the same on it
-  answer-kept : (Inside x base a n → a - base + n ≤ k) → answer x base a n ≡ answer (take k x) base a n
-  answer-kept h = same-answer x (take k x) base a n (λ i. (inside-front i (h i), λ j lo hi. sym (get_or-take k x j 0 (let u = h i in omega arith)))) inside-whole
+  answer_kept : (Inside x base a n → a - base + n ≤ k) → answer x base a n ≡ answer (take k x) base a n
+  answer_kept h = same_answer x (take k x) base a n (λ i. (inside_front i (h i), λ j lo hi. sym (get_or-take k x j 0 (let u = h i in omega arith)))) inside_whole
 
   -- a read of the front part fails, or gives what the whole gives
-  pub answer-cut : (answer (take k x) base a n ≡ failed) ⊎ (answer (take k x) base a n ≡ answer x base a n)
-  answer-cut = ⊎_elim (λ (i : Inside (take k x) base a n). inr (sym (answer-kept (λ j. omega (arith, length-take k x))))) inl (inside-or-failed (take k x) base a n)
+  pub answer_cut : (answer (take k x) base a n ≡ failed) ⊎ (answer (take k x) base a n ≡ answer x base a n)
+  answer_cut = ⊎_elim (λ (i : Inside (take k x) base a n). inr (sym (answer_kept (λ j. omega (arith, length-take k x))))) inl (inside_or_failed (take k x) base a n)
 
   -- a read that fails on the whole fails on every front part
-  pub failed-cut : answer x base a n ≡ failed → answer (take k x) base a n ≡ failed
-  failed-cut e = ⊎_elim (λ f. f) (λ f. f ∙ e) answer-cut
+  pub failed_cut : answer x base a n ≡ failed → answer (take k x) base a n ≡ failed
+  failed_cut e = ⊎_elim (λ f. f) (λ f. f ∙ e) answer_cut
 
 -- ---- the whole program
 
 -- a cut at or past the reach changes nothing
 pub past : {A : Type 0} (p : Prog A) (x : List ℕ) (k : ℕ) → reach p x ≤ k → Alike p x (take k x)
 unfolding trace
-past (done a) x k h = alike-done x (take k x) a
+past (done a) x k h = alike_done x (take k x) a
 past (read base a n f) x k h =
     let w = answer x base a n in
     let s : Span = record { offset = a - base; size = n } in
     let t = trace (f w) x in
-    alike-read x (take k x) base a n f
-    (answer-kept x k base a n (λ i. let l : a - base + n ≤ endOf (taken w s t) = end-here w s t _ (answer-inside x base a n i) in omega arith))
-    (past (f w) x k (let l : endOf t ≤ endOf (taken w s t) = end-there w s t in omega arith))
-past (unshown r p) x k h = alike-unshown x (take k x) r p (past p x k h)
+    alike_read x (take k x) base a n f
+    (answer_kept x k base a n (λ i. let l : a - base + n ≤ end_of (taken w s t) = end_here w s t _ (answer_inside x base a n i) in omega arith))
+    (past (f w) x k (let l : end_of t ≤ end_of (taken w s t) = end_there w s t in omega arith))
+past (unshown r p) x k h = alike_unshown x (take k x) r p (past p x k h)
 
 -- ---- two runs: p on a front part beside q on the whole
 
@@ -62,8 +62,8 @@ module _ {A : Type 0} {E : A → Type 0} {R : A → A → Type 0} {p : Prog A} (
   below h =
       ⊎_elim (λ e. e)
       (λ (e : trace p (take k x) ≡ trace p x).
-      let l : reach p (take k x) ≤ length (take k x) = reach-length p (take k x) in
-      let m : reach p (take k x) ≡ reach p x = ap endOf e in
+      let l : reach p (take k x) ≤ length (take k x) = reach_length p (take k x) in
+      let m : reach p (take k x) ≡ reach p x = ap end_of e in
       absurd (omega (arith, length-take k x)))
       (c.takes x k)
 

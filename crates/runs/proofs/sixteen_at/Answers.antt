@@ -1,5 +1,5 @@
-use Rattle.runs.specs.Code.{first-sixteen}
+use Rattle.runs.specs.Code.{first_sixteen}
 use Rattle.runs.proofs.sixteen_at.Goals as goal
 
 pub returns : goal.returns
-returns c = cc (first-sixteen c.args.s.now c.args.at)
+returns c = cc (first_sixteen c.args.s.now c.args.at)

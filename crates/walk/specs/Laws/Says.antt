@@ -4,15 +4,15 @@ use Rattle.std.specs.Prelude.{ℕ, zero, suc, ◌+◌, ◌-◌, ◌≤◌, ◌<�
 use Rattle.std.proofs.Common.{arith, sym, append_assoc, append-nil, lit≤, get_or-take, ne_eqb, eqb-true}
 use Rattle.base.specs.Laws.{cases}
 use Rattle.base.specs.Choice.{pick}
-use Rattle.window.specs.Window.{canRead, onFrom}
-use Rattle.le.specs.Le.{u8At, u32At}
+use Rattle.window.specs.Window.{can_read, on_from}
+use Rattle.le.specs.Le.{u8_at, u32_at}
 use Rattle.prog.specs.Prog.{Prog, done, fetch, ◌>>=◌, run}
-use Rattle.prog.specs.Laws.Run.{run-done, run-bind, run-failed, run-got}
+use Rattle.prog.specs.Laws.Run.{run_done, run_bind, run_failed, run_got}
 use Rattle.header.specs.declared.SdrrInfoFields.{SdrrInfoFields}
 use Rattle.version.specs.Version.{from060}
-use Rattle.header.specs.Header.{hasFilenames}
-use Rattle.walk.specs.Walk.{Rom, RomSet, Part, stop, found, orStop, refuse, romOf, infoSize, judgeRom, romP, romsP, tableP, pointedP, extraByte, setP, stride, romsOf, setsP, walkP}
-use Rattle.walk.specs.Code.Passes.{orNext, infoNumber, infoPointer, romNumber, romAt, romsNumber, romsAt, tableNumber, pointed, pointedNumber, configOf, overridesOf, headerNumber, setOf, partNumber, partRoms, oneSetNumber, setAt, strideOf, after, setsNumber, setsAt, walkNumber}
+use Rattle.header.specs.Header.{has_filenames}
+use Rattle.walk.specs.Walk.{Rom, RomSet, Part, stop, found, or_stop, refuse, rom_of, info_size, judge_rom, rom_p, roms_p, table_p, pointed_p, extra_byte, set_p, stride, roms_of, sets_p, walk_p}
+use Rattle.walk.specs.Code.Passes.{or_next, info_number, info_pointer, rom_number, rom_at, roms_number, roms_at, table_number, pointed, pointed_number, config_of, overrides_of, header_number, set_of, part_number, part_roms, one_set_number, set_at, stride_of, after, sets_number, sets_at, walk_number}
 
 -- the part p: accepted with a and number 0, or refused with a number that is not 0
 pub data Says {A : Type 0} (a : A) : ℕ → Part A → Type 0 where
@@ -29,165 +29,165 @@ some : (k : ℕ) → suc k ≡ 0 → ⊥
 some k e = omega arith
 
 module _ {A : Type 0} {x : List ℕ} {a : A} where
-  tells-found : Tells x a 0 (done (found a))
-  tells-found = record { says = rw (run-done x (found a)) accepts }
+  tells_found : Tells x a 0 (done (found a))
+  tells_found = record { says = rw (run_done x (found a)) accepts }
 
-  tells-stop : {n : ℕ} {roms : List Rom} → (n ≡ 0 → ⊥) → Tells x a n (done (stop n roms))
-  tells-stop {n} {roms} h = record { says = rw (run-done {A = Part A} x (stop n roms)) (refuses h) }
+  tells_stop : {n : ℕ} {roms : List Rom} → (n ≡ 0 → ⊥) → Tells x a n (done (stop n roms))
+  tells_stop {n} {roms} h = record { says = rw (run_done {A = Part A} x (stop n roms)) (refuses h) }
 
-  tells-pick : {n m : ℕ} {p q : Prog (Part A)} (b : Bool) → Tells x a n p → Tells x a m q → Tells x a (pick b n m) (pick b p q)
-  tells-pick true s t = s
-  tells-pick false s t = t
+  tells_pick : {n m : ℕ} {p q : Prog (Part A)} (b : Bool) → Tells x a n p → Tells x a m q → Tells x a (pick b n m) (pick b p q)
+  tells_pick true s t = s
+  tells_pick false s t = t
 
-  tells-fetch : {base address n m : ℕ} {roms : List Rom} {k : List ℕ → Prog (Part A)} → Tells x a m (k (take n (onFrom x base address)))
-      → Tells x a (pick (canRead x base address n) m 2) (fetch base address n (stop 2 roms) k)
-  unfolding onFrom
-  tells-fetch {base} {address} {n} {m} {roms} {k} s =
-      cases (canRead x base address n)
-      (λ e. record { says = rw (e, run-got x base address n (stop 2 roms) k e) s.says })
-      (λ e. record { says = rw (e, run-failed x base address n (stop 2 roms) k e) (refuses (some 1)) })
+  tells_fetch : {base address n m : ℕ} {roms : List Rom} {k : List ℕ → Prog (Part A)} → Tells x a m (k (take n (on_from x base address)))
+      → Tells x a (pick (can_read x base address n) m 2) (fetch base address n (stop 2 roms) k)
+  unfolding on_from
+  tells_fetch {base} {address} {n} {m} {roms} {k} s =
+      cases (can_read x base address n)
+      (λ e. record { says = rw (e, run_got x base address n (stop 2 roms) k e) s.says })
+      (λ e. record { says = rw (e, run_failed x base address n (stop 2 roms) k e) (refuses (some 1)) })
 
 module _ {A B : Type 0} {x : List ℕ} (passed : List Rom) {f : A → Prog (Part B)} {a : A} {n : ℕ} {b : A → B} {m : A → ℕ} where
-  tells-then : {p : Prog (Part A)} → Tells x a n p → ((c : A) → Tells x (b c) (m c) (f c)) → Tells x (b a) (orNext n (m a)) (p >>= orStop passed f)
-  tells-then {p} s t = record { says = rw (run-bind x p (orStop passed f)) (go n (run p x) s.says) }
+  tells_then : {p : Prog (Part A)} → Tells x a n p → ((c : A) → Tells x (b c) (m c) (f c)) → Tells x (b a) (or_next n (m a)) (p >>= or_stop passed f)
+  tells_then {p} s t = record { says = rw (run_bind x p (or_stop passed f)) (go n (run p x) s.says) }
     where
-      go : (n : ℕ) (q : Part A) → Says a n q → Says (b a) (orNext n (m a)) (run (orStop passed f q) x)
+      go : (n : ℕ) (q : Part A) → Says a n q → Says (b a) (or_next n (m a)) (run (or_stop passed f q) x)
       go n q accepts = (t a).says
-      go n q (refuses {roms = roms} h) = rw (ne_eqb n 0 h, run-done {A = Part B} x (stop n (passed ++ roms))) (refuses h)
+      go n q (refuses {roms = roms} h) = rw (ne_eqb n 0 h, run_done {A = Part B} x (stop n (passed ++ roms))) (refuses h)
 
 -- ---- the bytes of a record are those of the image from its address on
 
-u8-front : (n : ℕ) (l : List ℕ) (i : ℕ) → i < n → u8At (take n l) i ≡ u8At l i
-u8-front n l i h = get_or-take n l i 0 h
+u8_front : (n : ℕ) (l : List ℕ) (i : ℕ) → i < n → u8_at (take n l) i ≡ u8_at l i
+u8_front n l i h = get_or-take n l i 0 h
 
-u32-front : (n : ℕ) (l : List ℕ) (i : ℕ) → i + 4 ≤ n → u32At (take n l) i ≡ u32At l i
-u32-front n l i h =
-    rw (u8-front n l i (omega arith), u8-front n l (i + 1) (omega arith), u8-front n l (i + 2) (omega arith), u8-front n l (i + 3) (omega arith))
+u32_front : (n : ℕ) (l : List ℕ) (i : ℕ) → i + 4 ≤ n → u32_at (take n l) i ≡ u32_at l i
+u32_front n l i h =
+    rw (u8_front n l i (omega arith), u8_front n l (i + 1) (omega arith), u8_front n l (i + 2) (omega arith), u8_front n l (i + 3) (omega arith))
 
 -- ---- ROMs
 
-judge-front : (base : ℕ) (filenames : Bool) (l : List ℕ) → judgeRom base filenames (take (infoSize filenames) l) ≡ judgeRom base filenames l
-unfolding judgeRom romOf
-judge-front base true l =
-    simp (u8-front 8 l 0 (lit≤ tt), u8-front 8 l 1 (lit≤ tt), u8-front 8 l 2 (lit≤ tt), u8-front 8 l 3 (lit≤ tt), u32-front 8 l 4 (lit≤ tt))
-judge-front base false l =
-    simp (u8-front 4 l 0 (lit≤ tt), u8-front 4 l 1 (lit≤ tt), u8-front 4 l 2 (lit≤ tt), u8-front 4 l 3 (lit≤ tt))
+judge_front : (base : ℕ) (filenames : Bool) (l : List ℕ) → judge_rom base filenames (take (info_size filenames) l) ≡ judge_rom base filenames l
+unfolding judge_rom rom_of
+judge_front base true l =
+    simp (u8_front 8 l 0 (lit≤ tt), u8_front 8 l 1 (lit≤ tt), u8_front 8 l 2 (lit≤ tt), u8_front 8 l 3 (lit≤ tt), u32_front 8 l 4 (lit≤ tt))
+judge_front base false l =
+    simp (u8_front 4 l 0 (lit≤ tt), u8_front 4 l 1 (lit≤ tt), u8_front 4 l 2 (lit≤ tt), u8_front 4 l 3 (lit≤ tt))
 
-judge-tells : (x : List ℕ) (base : ℕ) (filenames : Bool) (s : List ℕ) → Tells x (romOf base filenames s) (infoNumber s) (done (judgeRom base filenames s))
-unfolding judgeRom infoNumber
-judge-tells x base filenames s = go (ltb 33 (u8At s 0)) (ltb 2 (u8At s 1) || (ltb 2 (u8At s 2) || ltb 2 (u8At s 3))) (romOf base filenames s)
+judge_tells : (x : List ℕ) (base : ℕ) (filenames : Bool) (s : List ℕ) → Tells x (rom_of base filenames s) (info_number s) (done (judge_rom base filenames s))
+unfolding judge_rom info_number
+judge_tells x base filenames s = go (ltb 33 (u8_at s 0)) (ltb 2 (u8_at s 1) || (ltb 2 (u8_at s 2) || ltb 2 (u8_at s 3))) (rom_of base filenames s)
   where
     go : (a b : Bool) (r : Rom) → Tells x r (pick a 42 (pick b 43 0)) (done (pick a (refuse 42) (pick b (refuse 43) (found r))))
-    go true b r = tells-stop (some 41)
-    go false true r = tells-stop (some 42)
-    go false false r = tells-found
+    go true b r = tells_stop (some 41)
+    go false true r = tells_stop (some 42)
+    go false false r = tells_found
 
-rom-tells : (x : List ℕ) (base : ℕ) (filenames : Bool) (entry : ℕ) → Tells x (romAt x base filenames entry) (romNumber x base filenames entry) (romP base filenames entry)
-unfolding romP romNumber romAt
-rom-tells x base filenames entry =
-    let e : u32At (take 4 (onFrom x base entry)) 0 ≡ infoPointer x base entry = u32-front 4 (onFrom x base entry) 0 (lit≤ tt) in
-    let l = onFrom x base (infoPointer x base entry) in
-    tells-fetch (rw e (tells-fetch (rw (judge-front base filenames l) (judge-tells x base filenames l))))
+rom_tells : (x : List ℕ) (base : ℕ) (filenames : Bool) (entry : ℕ) → Tells x (rom_at x base filenames entry) (rom_number x base filenames entry) (rom_p base filenames entry)
+unfolding rom_p rom_number rom_at
+rom_tells x base filenames entry =
+    let e : u32_at (take 4 (on_from x base entry)) 0 ≡ info_pointer x base entry = u32_front 4 (on_from x base entry) 0 (lit≤ tt) in
+    let l = on_from x base (info_pointer x base entry) in
+    tells_fetch (rw e (tells_fetch (rw (judge_front base filenames l) (judge_tells x base filenames l))))
 
-roms-tells : (x : List ℕ) (left base : ℕ) (filenames : Bool) (entry : ℕ) (passed : List Rom)
-    → Tells x (passed ++ romsAt x base filenames entry left) (romsNumber x base filenames entry left) (romsP left base filenames entry passed)
-unfolding romsP romsNumber romsAt
-roms-tells x zero base filenames entry passed = rw (append-nil passed) tells-found
-roms-tells x (suc left) base filenames entry passed =
-    rw (← append_assoc passed (romAt x base filenames entry ∷ []) (romsAt x base filenames (entry + 4) left))
-    (tells-then passed (rom-tells x base filenames entry) (λ rom. roms-tells x left base filenames (entry + 4) (passed ++ (rom ∷ []))))
+roms_tells : (x : List ℕ) (left base : ℕ) (filenames : Bool) (entry : ℕ) (passed : List Rom)
+    → Tells x (passed ++ roms_at x base filenames entry left) (roms_number x base filenames entry left) (roms_p left base filenames entry passed)
+unfolding roms_p roms_number roms_at
+roms_tells x zero base filenames entry passed = rw (append-nil passed) tells_found
+roms_tells x (suc left) base filenames entry passed =
+    rw (← append_assoc passed (rom_at x base filenames entry ∷ []) (roms_at x base filenames (entry + 4) left))
+    (tells_then passed (rom_tells x base filenames entry) (λ rom. roms_tells x left base filenames (entry + 4) (passed ++ (rom ∷ []))))
 
-table-tells : (x : List ℕ) (base : ℕ) (filenames : Bool) (count table : ℕ)
-    → Tells x (romsAt x base filenames table count) (tableNumber x base filenames count table) (tableP base filenames count table)
-unfolding tableP tableNumber romsAt
-table-tells x base filenames count table =
+table_tells : (x : List ℕ) (base : ℕ) (filenames : Bool) (count table : ℕ)
+    → Tells x (roms_at x base filenames table count) (table_number x base filenames count table) (table_p base filenames count table)
+unfolding table_p table_number roms_at
+table_tells x base filenames count table =
     cases (eqb count 0)
-    (λ e. rw (e, eqb-true count 0 e) tells-found)
-    (λ e. rw e (tells-pick (ltb table base) (tells-stop (some 2)) (roms-tells x count base filenames table [])))
+    (λ e. rw (e, eqb-true count 0 e) tells_found)
+    (λ e. rw e (tells_pick (ltb table base) (tells_stop (some 2)) (roms_tells x count base filenames table [])))
 
 -- ---- sets
 
-pointed-tells : (x : List ℕ) (base : ℕ) (counts : Bool) (pointer : ℕ)
-    → Tells x (pointed counts pointer) (pointedNumber x base (pointed counts pointer)) (pointedP base counts pointer)
-unfolding pointedP pointedNumber pointed
-pointed-tells x base false pointer = tells-found
-pointed-tells x base true pointer =
+pointed_tells : (x : List ℕ) (base : ℕ) (counts : Bool) (pointer : ℕ)
+    → Tells x (pointed counts pointer) (pointed_number x base (pointed counts pointer)) (pointed_p base counts pointer)
+unfolding pointed_p pointed_number pointed
+pointed_tells x base false pointer = tells_found
+pointed_tells x base true pointer =
     cases (eqb pointer 0)
-    (λ e. rw e tells-found)
-    (λ e. rw e (cases (eqb pointer 4294967295) (λ f. rw f tells-found) (λ f. rw (f, e) (tells-fetch tells-found))))
+    (λ e. rw e tells_found)
+    (λ e. rw e (cases (eqb pointer 4294967295) (λ f. rw f tells_found) (λ f. rw (f, e) (tells_fetch tells_found))))
 
 -- the bytes that are read of a set
 module _ (l : List ℕ) where
-  pub set-front : (base : ℕ) (filenames : Bool) → setP base filenames (take 64 l) ≡ setP base filenames l
-  unfolding setP
-  set-front base filenames =
+  pub set_front : (base : ℕ) (filenames : Bool) → set_p base filenames (take 64 l) ≡ set_p base filenames l
+  unfolding set_p
+  set_front base filenames =
       simp (
-        u8-front 64 l 12 (lit≤ tt),
-        u8-front 64 l 13 (lit≤ tt),
-        u8-front 64 l 14 (lit≤ tt),
-        u8-front 64 l 15 (lit≤ tt),
-        u32-front 64 l 0 (lit≤ tt),
-        u32-front 64 l 4 (lit≤ tt),
-        u32-front 64 l 8 (lit≤ tt),
-        u32-front 64 l 16 (lit≤ tt),
-        u32-front 64 l 20 (lit≤ tt),
+        u8_front 64 l 12 (lit≤ tt),
+        u8_front 64 l 13 (lit≤ tt),
+        u8_front 64 l 14 (lit≤ tt),
+        u8_front 64 l 15 (lit≤ tt),
+        u32_front 64 l 0 (lit≤ tt),
+        u32_front 64 l 4 (lit≤ tt),
+        u32_front 64 l 8 (lit≤ tt),
+        u32_front 64 l 16 (lit≤ tt),
+        u32_front 64 l 20 (lit≤ tt),
       )
 
-  pub stride-front : (f : SdrrInfoFields) → stride f (take 64 l) ≡ strideOf (from060 f.version) l
-  stride-front f = rw (u8-front 64 l 15 (lit≤ tt))
+  pub stride_front : (f : SdrrInfoFields) → stride f (take 64 l) ≡ stride_of (from060 f.version) l
+  stride_front f = rw (u8_front 64 l 15 (lit≤ tt))
 
 -- the numbers of a set, one after the other
-or-none : (n : ℕ) → orNext n 0 ≡ n
-or-none n = cases (eqb n 0) (λ e. rw e (sym (eqb-true n 0 e))) (λ e. rw e)
+or_none : (n : ℕ) → or_next n 0 ≡ n
+or_none n = cases (eqb n 0) (λ e. rw e (sym (eqb-true n 0 e))) (λ e. rw e)
 
-or-assoc : (n m k : ℕ) → orNext (orNext n m) k ≡ orNext n (orNext m k)
-or-assoc n m k = cases (eqb n 0) (λ e. rw e) (λ e. rw (e, e))
+or_assoc : (n m k : ℕ) → or_next (or_next n m) k ≡ or_next n (or_next m k)
+or_assoc n m k = cases (eqb n 0) (λ e. rw e) (λ e. rw (e, e))
 
-set-number : (a b : Bool) (c o t : ℕ) → orNext (pick a 40 (pick b 41 (orNext c o))) t ≡ pick a 40 (pick b 41 (orNext c (orNext o (orNext t 0))))
-set-number true b c o t = refl
-set-number false true c o t = refl
-set-number false false c o t = rw (or-none t) (or-assoc c o t)
+set_number : (a b : Bool) (c o t : ℕ) → or_next (pick a 40 (pick b 41 (or_next c o))) t ≡ pick a 40 (pick b 41 (or_next c (or_next o (or_next t 0))))
+set_number true b c o t = refl
+set_number false true c o t = refl
+set_number false false c o t = rw (or_none t) (or_assoc c o t)
 
-read-number : (b : Bool) (n m : ℕ) → orNext (pick b n 2) m ≡ pick b (orNext n m) 2
-read-number true n m = refl
-read-number false n m = refl
+read_number : (b : Bool) (n m : ℕ) → or_next (pick b n 2) m ≡ pick b (or_next n m) 2
+read_number true n m = refl
+read_number false n m = refl
 
 -- the set whose part of the image is s
-pub set-tells : (x : List ℕ) (base : ℕ) (filenames : Bool) (s : List ℕ)
-    → Tells x (setOf s (partRoms x base filenames s)) (partNumber x base filenames s) (setP base filenames s)
-unfolding setP partNumber headerNumber setOf
-set-tells x base filenames s =
-    rw (set-number (ltb 2 (u8At s 13)) (ltb 2 (u8At s 14)) (pointedNumber x base (configOf s)) (pointedNumber x base (overridesOf s)) (tableNumber x base filenames (u8At s 12) (u32At s 8)))
-    (tells-pick (ltb 2 (u8At s 13)) (tells-stop (some 39))
-    (tells-pick (ltb 2 (u8At s 14)) (tells-stop (some 40))
-    (tells-then [] (pointed-tells x base (extraByte s) (u32At s 16)) λ config.
-    tells-then [] (pointed-tells x base (extraByte s) (u32At s 20)) λ overrides.
-    tells-then [] (table-tells x base filenames (u8At s 12) (u32At s 8)) λ roms.
-    tells-found)))
+pub set_tells : (x : List ℕ) (base : ℕ) (filenames : Bool) (s : List ℕ)
+    → Tells x (set_of s (part_roms x base filenames s)) (part_number x base filenames s) (set_p base filenames s)
+unfolding set_p part_number header_number set_of
+set_tells x base filenames s =
+    rw (set_number (ltb 2 (u8_at s 13)) (ltb 2 (u8_at s 14)) (pointed_number x base (config_of s)) (pointed_number x base (overrides_of s)) (table_number x base filenames (u8_at s 12) (u32_at s 8)))
+    (tells_pick (ltb 2 (u8_at s 13)) (tells_stop (some 39))
+    (tells_pick (ltb 2 (u8_at s 14)) (tells_stop (some 40))
+    (tells_then [] (pointed_tells x base (extra_byte s) (u32_at s 16)) λ config.
+    tells_then [] (pointed_tells x base (extra_byte s) (u32_at s 20)) λ overrides.
+    tells_then [] (table_tells x base filenames (u8_at s 12) (u32_at s 8)) λ roms.
+    tells_found)))
 
-pub sets-tells : (x : List ℕ) (left base : ℕ) (f : SdrrInfoFields) (address : ℕ) (passed : List RomSet)
-    → Tells x (passed ++ setsAt x base (hasFilenames f) (from060 f.version) address left) (setsNumber x base (hasFilenames f) (from060 f.version) address left)
-    (setsP left base f address passed)
-unfolding setsP setsNumber setsAt oneSetNumber setAt
-sets-tells x zero base f address passed = rw (append-nil passed) tells-found
-sets-tells x (suc left) base f address passed =
-    let l = onFrom x base address in
-    let filenames = hasFilenames f in
+pub sets_tells : (x : List ℕ) (left base : ℕ) (f : SdrrInfoFields) (address : ℕ) (passed : List RomSet)
+    → Tells x (passed ++ sets_at x base (has_filenames f) (from060 f.version) address left) (sets_number x base (has_filenames f) (from060 f.version) address left)
+    (sets_p left base f address passed)
+unfolding sets_p sets_number sets_at one_set_number set_at
+sets_tells x zero base f address passed = rw (append-nil passed) tells_found
+sets_tells x (suc left) base f address passed =
+    let l = on_from x base address in
+    let filenames = has_filenames f in
     let next = after x base (from060 f.version) address in
     rw (
-      ← append_assoc passed (setAt x base filenames address ∷ []) (setsAt x base filenames (from060 f.version) next left),
-      read-number (canRead x base address 64) (partNumber x base filenames l) (setsNumber x base filenames (from060 f.version) next left),
+      ← append_assoc passed (set_at x base filenames address ∷ []) (sets_at x base filenames (from060 f.version) next left),
+      read_number (can_read x base address 64) (part_number x base filenames l) (sets_number x base filenames (from060 f.version) next left),
     )
-    (tells-fetch
-    (rw (set-front l base filenames, stride-front l f)
-    (tells-then (romsOf passed) (set-tells x base filenames l) (λ set. sets-tells x left base f next (passed ++ (set ∷ []))))))
+    (tells_fetch
+    (rw (set_front l base filenames, stride_front l f)
+    (tells_then (roms_of passed) (set_tells x base filenames l) (λ set. sets_tells x left base f next (passed ++ (set ∷ []))))))
 
 -- the whole walk
-pub walk-tells : (x : List ℕ) (base : ℕ) (f : SdrrInfoFields) (count pointer : ℕ)
-    → Tells x (setsAt x base (hasFilenames f) (from060 f.version) pointer count) (walkNumber x base (hasFilenames f) (from060 f.version) count pointer)
-    (walkP base f count pointer)
-unfolding walkP walkNumber setsAt
-walk-tells x base f count pointer =
+pub walk_tells : (x : List ℕ) (base : ℕ) (f : SdrrInfoFields) (count pointer : ℕ)
+    → Tells x (sets_at x base (has_filenames f) (from060 f.version) pointer count) (walk_number x base (has_filenames f) (from060 f.version) count pointer)
+    (walk_p base f count pointer)
+unfolding walk_p walk_number sets_at
+walk_tells x base f count pointer =
     cases (eqb count 0)
-    (λ e. rw (e, eqb-true count 0 e) tells-found)
-    (λ e. rw e (tells-pick (ltb pointer base) (tells-stop (some 2)) (sets-tells x count base f pointer [])))
+    (λ e. rw (e, eqb-true count 0 e) tells_found)
+    (λ e. rw e (tells_pick (ltb pointer base) (tells_stop (some 2)) (sets_tells x count base f pointer [])))

@@ -9,75 +9,75 @@ use Rattle.std.specs.Prelude.{◌≡◌, Bool}
 use Rattle.std.proofs.Math.Path.{refl}
 use mathlib.Core.List.{List, [], ◌∷◌, ◌++◌}
 use Rattle.std.proofs.Math.ListN.{length-append}
-use Rattle.window.specs.Window.{onFrom}
-use Rattle.le.specs.Le.{u8At, u32At}
-use Rattle.set_header.specs.Laws.{stride-bound}
-use Rattle.walk.specs.Walk.{RomSet, romsOf}
-use Rattle.walk.specs.Rows.{countsOf}
-use Rattle.walk.specs.Code.Passes.{strideOf, partRoms, setOf, setAt, after, setAddress, setsAt}
-use Rattle.walk.specs.Laws.Passes.{roms-length, romsIn}
+use Rattle.window.specs.Window.{on_from}
+use Rattle.le.specs.Le.{u8_at, u32_at}
+use Rattle.set_header.specs.Laws.{stride_bound}
+use Rattle.walk.specs.Walk.{RomSet, roms_of}
+use Rattle.walk.specs.Rows.{counts_of}
+use Rattle.walk.specs.Code.Passes.{stride_of, part_roms, set_of, set_at, after, set_address, sets_at}
+use Rattle.walk.specs.Laws.Passes.{roms_length, roms_in}
 
 -- ---- the sum
 
-pub counts-append : (ss ts : List RomSet) → countsOf (ss ++ ts) ≡ countsOf ss + countsOf ts
-unfolding countsOf
-counts-append [] ts = sym (zero-add (countsOf ts))
-counts-append (s ∷ ss) ts = rw (counts-append ss ts) (sym (add_assoc s.romCount (countsOf ss) (countsOf ts)))
+pub counts_append : (ss ts : List RomSet) → counts_of (ss ++ ts) ≡ counts_of ss + counts_of ts
+unfolding counts_of
+counts_append [] ts = sym (zero-add (counts_of ts))
+counts_append (s ∷ ss) ts = rw (counts_append ss ts) (sym (add_assoc s.rom_count (counts_of ss) (counts_of ts)))
 
 -- ---- where the passes stand
 
 module _ (x : List ℕ) (base : ℕ) (filenames long : Bool) where
-  address-next : (i pointer : ℕ) → setAddress x base long pointer (suc i) ≡ after x base long (setAddress x base long pointer i)
-  unfolding setAddress
-  address-next zero pointer = refl
-  address-next (suc i) pointer = address-next i (after x base long pointer)
+  address_next : (i pointer : ℕ) → set_address x base long pointer (suc i) ≡ after x base long (set_address x base long pointer i)
+  unfolding set_address
+  address_next zero pointer = refl
+  address_next (suc i) pointer = address_next i (after x base long pointer)
 
   -- the earlier sets, and those from where the next one stands
-  pub sets-split : (i pointer k : ℕ) → setsAt x base filenames long pointer (i + k) ≡ setsAt x base filenames long pointer i ++ setsAt x base filenames long (setAddress x base long pointer i) k
-  unfolding setsAt setAddress
-  sets-split zero pointer k = rw zero-add
-  sets-split (suc i) pointer k = rw (suc-add i k) (ap (λ (ss : List RomSet). setAt x base filenames pointer ∷ ss) (sets-split i (after x base long pointer) k))
+  pub sets_split : (i pointer k : ℕ) → sets_at x base filenames long pointer (i + k) ≡ sets_at x base filenames long pointer i ++ sets_at x base filenames long (set_address x base long pointer i) k
+  unfolding sets_at set_address
+  sets_split zero pointer k = rw zero-add
+  sets_split (suc i) pointer k = rw (suc-add i k) (ap (λ (ss : List RomSet). set_at x base filenames pointer ∷ ss) (sets_split i (after x base long pointer) k))
 
-  pub address-bound : (i pointer : ℕ) → setAddress x base long pointer i ≤ pointer + 64 * i
-  unfolding setAddress
-  address-bound zero pointer = omega arith
-  address-bound (suc i) pointer =
-      let h = address-bound i (after x base long pointer) in
-      let s = stride-bound long (onFrom x base pointer) in
+  pub address_bound : (i pointer : ℕ) → set_address x base long pointer i ≤ pointer + 64 * i
+  unfolding set_address
+  address_bound zero pointer = omega arith
+  address_bound (suc i) pointer =
+      let h = address_bound i (after x base long pointer) in
+      let s = stride_bound long (on_from x base pointer) in
       omega (arith, h, s)
 
   -- each of these sets lists as many ROMs as it counts
-  pub total-roms : (i pointer : ℕ) → countsOf (setsAt x base filenames long pointer i) ≡ romsIn x base filenames long pointer i
-  unfolding setsAt setAt setOf romsOf countsOf
-  total-roms zero pointer = refl
-  total-roms (suc i) pointer =
-      let s = onFrom x base pointer in
-      let l = length-append (partRoms x base filenames s) (romsOf (setsAt x base filenames long (after x base long pointer) i)) in
-      let n = roms-length x base filenames (u32At s 8) (u8At s 12) in
-      let t = total-roms i (after x base long pointer) in
+  pub total_roms : (i pointer : ℕ) → counts_of (sets_at x base filenames long pointer i) ≡ roms_in x base filenames long pointer i
+  unfolding sets_at set_at set_of roms_of counts_of
+  total_roms zero pointer = refl
+  total_roms (suc i) pointer =
+      let s = on_from x base pointer in
+      let l = length-append (part_roms x base filenames s) (roms_of (sets_at x base filenames long (after x base long pointer) i)) in
+      let n = roms_length x base filenames (u32_at s 8) (u8_at s 12) in
+      let t = total_roms i (after x base long pointer) in
       omega (arith, l, n, t)
 
   -- a set that is taken on, as the code has it: where it stands, and its part of the image
-  module _ (pointer i address : ℕ) (v : address ≡ setAddress x base long pointer i) (s : List ℕ) (w : s ≡ onFrom x base address) where
-    pub address-step : (d : ℕ) → d ≡ strideOf long s → address + d ≡ setAddress x base long pointer (i + 1)
-    address-step d e = rw (e, w, v, add-one i) (sym (address-next i pointer))
+  module _ (pointer i address : ℕ) (v : address ≡ set_address x base long pointer i) (s : List ℕ) (w : s ≡ on_from x base address) where
+    pub address_step : (d : ℕ) → d ≡ stride_of long s → address + d ≡ set_address x base long pointer (i + 1)
+    address_step d e = rw (e, w, v, add-one i) (sym (address_next i pointer))
 
-    pub sets-more : setsAt x base filenames long pointer (i + 1) ≡ setsAt x base filenames long pointer i ++ (setOf s (partRoms x base filenames s) ∷ [])
-    unfolding setsAt setAt
-    sets-more = rw (w, v) (sets-split i pointer 1)
+    pub sets_more : sets_at x base filenames long pointer (i + 1) ≡ sets_at x base filenames long pointer i ++ (set_of s (part_roms x base filenames s) ∷ [])
+    unfolding sets_at set_at
+    sets_more = rw (w, v) (sets_split i pointer 1)
 
-    pub total-step : (total n : ℕ) → total ≡ countsOf (setsAt x base filenames long pointer i) → n ≡ u8At s 12
-        → total + n ≡ countsOf (setsAt x base filenames long pointer (i + 1))
-    unfolding countsOf setOf
-    total-step total n e f =
-        rw (sets-more, counts-append (setsAt x base filenames long pointer i) (setOf s (partRoms x base filenames s) ∷ []), e, f, add-zero (u8At s 12))
+    pub total_step : (total n : ℕ) → total ≡ counts_of (sets_at x base filenames long pointer i) → n ≡ u8_at s 12
+        → total + n ≡ counts_of (sets_at x base filenames long pointer (i + 1))
+    unfolding counts_of set_of
+    total_step total n e f =
+        rw (sets_more, counts_append (sets_at x base filenames long pointer i) (set_of s (part_roms x base filenames s) ∷ []), e, f, add-zero (u8_at s 12))
 
   -- rows enough for n sets are enough for i of them
-  pub total-within : (i n pointer : ℕ) → i ≤ n → countsOf (setsAt x base filenames long pointer i) ≤ romsIn x base filenames long pointer n
-  total-within i n pointer h =
+  pub total_within : (i n pointer : ℕ) → i ≤ n → counts_of (sets_at x base filenames long pointer i) ≤ roms_in x base filenames long pointer n
+  total_within i n pointer h =
       let k : i + (n - i) ≡ n = omega arith in
-      let later = setsAt x base filenames long (setAddress x base long pointer i) (n - i) in
-      let e : setsAt x base filenames long pointer n ≡ setsAt x base filenames long pointer i ++ later = rw k at (sets-split i pointer (n - i)) in
-      let c = counts-append (setsAt x base filenames long pointer i) later in
-      let t = total-roms n pointer in
+      let later = sets_at x base filenames long (set_address x base long pointer i) (n - i) in
+      let e : sets_at x base filenames long pointer n ≡ sets_at x base filenames long pointer i ++ later = rw k at (sets_split i pointer (n - i)) in
+      let c = counts_append (sets_at x base filenames long pointer i) later in
+      let t = total_roms n pointer in
       rw (← t, e, c) (omega arith)

@@ -32,16 +32,9 @@ def program_of(folder, words):
     return BYTES if words_of_numbers()[119].encode() in done.stdout + done.stderr else PROGRAM
 
 
-def is_refusal(out, err):
-    """Whether what was said is no answer. Beside bytes that are read by set 0, standard error says so."""
-    is_said = out == b"" and err.startswith(b"bench: ") and not err.endswith(b" first type\n")
-    return is_said or out.startswith(b"refused ") or err.startswith(b"refused ")
-
-
 def run(folder, *words):
     done = subprocess.run([program_of(folder, words), *words], cwd=folder, stdin=subprocess.DEVNULL, capture_output=True, timeout=60)
-    expected = (1, 2) if is_refusal(done.stdout, done.stderr) else (0,)
-    expect(done.returncode in expected, "exit status of bench %s: %d" % (" ".join(words), done.returncode))
+    same(done.returncode, 0, "exit status of bench " + " ".join(words))
     return done.stdout, done.stderr
 
 

@@ -11,12 +11,12 @@ import sys
 ROOT = os.path.join(os.path.dirname(os.path.abspath(__file__)), "..", "..")
 # a definition that gives each case its number; how its cases' names begin, and how the header's do
 DEFINED = (
-    ("lineNumber", "", "LINE_"),
-    ("storageNumber", "Storage", "STORAGE_"),
-    ("portNumber", "Port", "PORT_"),
-    ("romTypeNumber", "", "TYPE_"),
-    ("setPlace", "", "SET_"),
-    ("romPlace", "", "ROM_"),
+    ("line_number", "", "LINE_"),
+    ("storage_number", "Storage", "STORAGE_"),
+    ("port_number", "Port", "PORT_"),
+    ("rom_type_number", "", "TYPE_"),
+    ("set_place", "", "SET_"),
+    ("rom_place", "", "ROM_"),
 )
 # constants that the Rust wrapper has too
 IN_RUST = ("LINE_", "STORAGE_", "PORT_", "PIO_", "SET_", "ROM_", "PART_", "SERVE_", "STATE_", "TYPE_", "LEVEL", "LOW", "HIGH", "ITEM_", "ACCEPTED",
@@ -78,7 +78,7 @@ def main():
         held = {plain(k[len(prefix):]): v for k, v in c.items() if k.startswith(prefix) and k not in ("SET_WORDS", "ROM_WORDS")}
         bad += [] if cases else ["no definition is called %s" % function]
         bad += differences(function, held, cases)
-    for name, width in (("SET_WORDS", "setRowLength"), ("ROM_WORDS", "romRowLength")):
+    for name, width in (("SET_WORDS", "set_row_length"), ("ROM_WORDS", "rom_row_length")):
         bad += differences(width, {name: c.get(name)}, dict((name, int(n)) for n in re.findall(r"(?m)^%s = (\d+)$" % width, specs)))
     for name, crate in OWNED:
         owned = re.search(r"pub const %s: usize = (\d+);" % name, text("crates/%s/src/lib.rt" % crate))

@@ -43,6 +43,13 @@ def spec(name):
     return os.path.join(CRATES, crate, "specs", module + ".antt")
 
 
+def files(name):
+    """Where a file of definitions or laws stands: in specs/, laws also in proofs/, and some in both, the statement and its proof."""
+    crate, module = name.split("/", 1)
+    paths = [os.path.join(CRATES, crate, folder, module + ".antt") for folder in ("specs", "proofs")]
+    return [path for path in paths if os.path.exists(path)]
+
+
 def reading():
     rows = ["| document 01 | files, with their lines |", "|---|---|"]
     total = 0
@@ -95,12 +102,12 @@ def main():
             if re.fullmatch(r"[A-Za-z][\w'-]*", token) and token not in everything:
                 bad.append(f"no such name: {token}")
         for name in re.findall(r"\b([a-z_0-9]+/[A-Z]\w*(?:/[A-Z]\w*)?)\b", line):
-            if name.split("/")[0] in crates and not os.path.exists(spec(name)):
+            if name.split("/")[0] in crates and not files(name):
                 bad.append(f"no such file: {name}")
         # `a`, `b` in crate/File
         for group, name in re.findall(r"((?:`[\w'-]+`(?:, | and )?)+) in ([a-z_0-9]+/[A-Z]\w*(?:/[A-Z]\w*)?)\b", line):
-            if os.path.exists(spec(name)):
-                here = defined(spec(name))
+            if files(name):
+                here = set().union(*map(defined, files(name)))
                 bad += [f"{n} is not in {name}" for n in re.findall(r"`([\w'-]+)`", group) if n not in here]
         # `f`, `g` in crate
         for group, crate in re.findall(r"((?:`[\w]+`(?:, | and )?)+) in ([a-z_0-9]+)\b(?!/)", line):

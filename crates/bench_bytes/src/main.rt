@@ -65,5 +65,5 @@ fn done(rt: HostRuntime, request: Request) -> u8 {
 
 fn main(rt: HostRuntime) -> ExitCode {
     let request = bench_args::parse(&rt);
-    ExitCode::from(done(rt, request))
+    bench_refuse::tell(request, done(rt, request))
 }

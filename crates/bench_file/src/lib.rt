@@ -26,12 +26,17 @@ pub struct Loaded {
 // The number of a dump that cannot be read, for no reason that has a number of its own.
 pub const UNREADABLE: u8 = 111;
 
+// The system's number for a file whose mode keeps the reader out. ErrorKind::PermissionDenied is wider.
+const EACCES: i32 = 13;
+
 // Why a call failed.
 fn why(error: Error) -> u8 {
+    if error.raw_os_error() == Some(EACCES) {
+        return 110;
+    }
     match error.kind() {
         ErrorKind::NotFound => 108,
         ErrorKind::IsADirectory => 109,
-        ErrorKind::PermissionDenied => 110,
         _ => UNREADABLE,
     }
 }

@@ -5,6 +5,7 @@
 use bench_args::Request;
 use bench_form::form;
 use bench_out::{Out, Stream};
+use std::process::ExitCode;
 
 // How the answer is wanted: for a script, as bytes on standard output, by set 0's ROMs; and the argument that names the file (0: the sample).
 #[derive(Clone, Copy)]
@@ -134,4 +135,12 @@ pub fn other_program(rt: HostRuntime, request: Request) -> u8 {
         return 3;
     }
     part(how(rt, request), 119, b"", &[])
+}
+
+// How the program ends: with the status where the caller goes by it, to others with 0.
+pub fn tell(request: Request, status: u8) -> ExitCode {
+    if !request.status {
+        return ExitCode::SUCCESS;
+    }
+    ExitCode::from(status)
 }

@@ -16,10 +16,10 @@ use Rattle.window.specs.Laws.{true_inside, part}
 use Rattle.prog.specs.Prog.{run}
 use Rattle.utf8.specs.Utf8.{is_utf8}
 use Rattle.utf8.specs.Points.{points, points_of}
-use Rattle.utf8.specs.Laws.Points.{points_length, some_points, none_points}
+use Rattle.utf8.proofs.Laws.Points.{points_length, some_points, none_points}
 use Rattle.text.specs.Text.{accepted_text, refused_text, has_nul, before_nul, judged, text_p}
-use Rattle.text.specs.Laws.Nul.{before_shorter, before_all}
-use Rattle.text.specs.Laws.Chunks.{rest_p, chunk_after, text_start, chunks_none, chunks_ended, chunks_found, chunks_next}
+use Rattle.text.proofs.Laws.Nul.{before_shorter, before_all}
+use Rattle.text.proofs.Laws.Chunks.{rest_p, chunk_after, text_start, chunks_none, chunks_ended, chunks_found, chunks_next}
 
 -- the search for a NUL: where it ends, where it finds one, and where it goes on
 module _ (s : List ℕ) (i : ℕ) where

@@ -1,3 +1,2 @@
 pub mod Shown
 pub mod Demand3
-pub mod Laws

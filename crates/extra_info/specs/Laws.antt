@@ -3,8 +3,8 @@
 use Rattle.std.specs.Prelude.{ℕ, ◌≤◌, ◌<◌, ◌≡◌, true, false, List, length, take}
 use Rattle.std.proofs.Common.{lt-ltb, le-ltb}
 use Rattle.le.specs.Le.{flag_at}
-use Rattle.prog.specs.Laws.Honest.{Honest, honesty}
-use Rattle.prog.specs.Laws.Record.{front_byte, front_short}
+use Rattle.prog.proofs.Laws.Honest.{Honest, honesty}
+use Rattle.prog.proofs.Laws.Record.{front_byte, front_short}
 use Rattle.version.specs.declared.FirmwareVersion.{FirmwareVersion}
 use Rattle.version.specs.Version.{from060}
 use Rattle.extra_info.specs.declared.FirePioDefault.{FirePioDefault}

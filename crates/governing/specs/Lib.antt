@@ -1,2 +1,1 @@
 pub mod Governing
-pub mod Laws

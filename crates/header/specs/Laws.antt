@@ -7,8 +7,8 @@ use Rattle.window.specs.Window.{can_read, on_from}
 use Rattle.le.specs.Le.{u16_at, u32_at}
 use Rattle.magic.specs.Magic.{starts_with}
 use Rattle.prog.specs.Prog.{run}
-use Rattle.prog.specs.Laws.Honest.{Honest, honesty}
-use Rattle.prog.specs.Laws.Record.{front_byte, front_short, front_starts, record_ended, record_onward}
+use Rattle.prog.proofs.Laws.Honest.{Honest, honesty}
+use Rattle.prog.proofs.Laws.Record.{front_byte, front_short, front_starts, record_ended, record_onward}
 use Rattle.header.specs.declared.HeaderAnswer.{HeaderAnswer}
 use Rattle.version.specs.Version.{below04, from070}
 use Rattle.header.specs.Header.{header_magic, version_of, header_fields, extra_pointer, whole_of, refused_header, header_of, header_p}

@@ -1,4 +1,3 @@
 pub mod Jobs
 pub mod Histories
 pub mod Isolated
-pub mod Laws

@@ -13,9 +13,10 @@ use Rattle.header.specs.declared.SdrrInfoFields.{SdrrInfoFields}
 use Rattle.version.specs.Version.{from060}
 use Rattle.header.specs.Header.{has_filenames}
 use Rattle.judge_walk.specs.declared.Walked.{Walked}
-use Rattle.walk.specs.Laws.Passes.{roms_in, no_roms}
-use Rattle.walk.specs.Laws.Reached.{number_reached}
-use Rattle.judge_walk.specs.Code.{walked, judged_of, walked_good, walked_bad, walk_judged}
+use Rattle.walk.proofs.Laws.Passes.{roms_in, no_roms}
+use Rattle.walk.proofs.Laws.Reached.{number_reached}
+use Rattle.judge_walk.specs.Code.{walked, judged_of, walked_good, walked_bad}
+use Rattle.judge_walk.proofs.Laws.{walk_judged}
 use Rattle.walk.specs.Code.Passes.{or_next, rom_number, roms_number, one_set_number, after, set_address, sets_number, walk_number}
 
 -- ---- one part after the other

@@ -1,3 +1,1 @@
-pub mod Follow
 pub mod Component
-pub mod Along

@@ -5,8 +5,8 @@ use Rattle.std.proofs.Common.{arith}
 use borrow.Author.Tests.{lt-ltb, le-ltb, eq-eqb, ne_eqb}
 use Rattle.le.specs.Le.{u8_at, u32_at}
 use Rattle.magic.specs.Magic.{starts_with}
-use Rattle.prog.specs.Laws.Honest.{Honest, honesty}
-use Rattle.prog.specs.Laws.Record.{front_byte, front_short, front_starts}
+use Rattle.prog.proofs.Laws.Honest.{Honest, honesty}
+use Rattle.prog.proofs.Laws.Record.{front_byte, front_short, front_starts}
 use Rattle.metadata.specs.declared.MetadataAnswer.{MetadataAnswer}
 use Rattle.metadata.specs.Metadata.{metadata_magic, refused_metadata, metadata_of, metadata_p}
 

@@ -2,8 +2,8 @@
 -- Assumes nothing.
 use Rattle.std.specs.Prelude.{ℕ, ◌≤◌, ◌<◌, ◌≡◌, true, false, List, length, take}
 use Rattle.std.proofs.Common.{lt-ltb, le-ltb}
-use Rattle.prog.specs.Laws.Honest.{Honest, honesty}
-use Rattle.prog.specs.Laws.Record.{front_byte, front_short}
+use Rattle.prog.proofs.Laws.Honest.{Honest, honesty}
+use Rattle.prog.proofs.Laws.Record.{front_byte, front_short}
 use Rattle.pins.specs.declared.PinsItem.{PinsItem}
 use Rattle.pins.specs.Pins.{pins_fields, refused_pins, unknown_port, pins_of, pins_p}
 

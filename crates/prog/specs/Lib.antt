@@ -1,3 +1,2 @@
 pub mod Prog
-pub mod Laws
 pub mod Examples

@@ -18,10 +18,11 @@ use Rattle.judge_walk.specs.declared.Walked.{Walked}
 use Rattle.walk.specs.Walk.{RomSet, Part, stop, found, roms_of, walk_p}
 use Rattle.walk.specs.Names.{names_p, walk_names_p}
 use Rattle.walk.specs.Rows.{set_rows_of, rom_rows_of, overwritten}
-use Rattle.walk.specs.Laws.Rows.{set_rows_length}
+use Rattle.walk.proofs.Laws.Rows.{set_rows_length}
 use Rattle.walk.specs.Code.Passes.{sets_at}
-use Rattle.walk.specs.Laws.Passes.{sets_length}
-use Rattle.judge_walk.specs.Code.{judged_of, walk_found}
+use Rattle.walk.proofs.Laws.Passes.{sets_length}
+use Rattle.judge_walk.specs.Code.{judged_of}
+use Rattle.judge_walk.proofs.Laws.{walk_found}
 use Rattle.rom_rows.specs.Reply.{refused_walk, walk_reply, walk_set_rows, walk_rom_rows}
 use Rattle.write_rows.specs.Code.{named_rows, rows_named, named_length}
 

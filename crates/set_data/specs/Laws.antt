@@ -9,7 +9,7 @@ use Rattle.base.specs.Choice.{pick}
 use Rattle.window.specs.Window.{can_read}
 use Rattle.window.specs.Laws.{Inside, true_inside}
 use Rattle.prog.specs.Prog.{done, fetch, run}
-use Rattle.prog.specs.Laws.Run.{run_done, run_failed, run_got}
+use Rattle.prog.proofs.Laws.Run.{run_done, run_failed, run_got}
 use Rattle.rows.specs.LentRows.{set_number, data_pointer, size_of}
 use Rattle.set_data.specs.Data.{unvalued, size_call, Bytes, no_bytes, data_p}
 use Rattle.set_data.specs.declared.SetData.{SetData}

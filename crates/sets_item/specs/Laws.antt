@@ -7,13 +7,13 @@ use Rattle.std.proofs.Math.Bool.{true, false}
 use Rattle.base.specs.Laws.{cases}
 use Rattle.base.specs.Choice.{pick}
 use Rattle.prog.specs.Prog.{done, run}
-use Rattle.prog.specs.Laws.Run.{run_done, run_map}
+use Rattle.prog.proofs.Laws.Run.{run_done, run_map}
 use Rattle.header.specs.declared.SdrrInfoFields.{SdrrInfoFields}
 use Rattle.header.specs.declared.SdrrInfoHeader.{SdrrInfoHeader}
 use Rattle.judge_walk.specs.declared.Walked.{Walked}
 use Rattle.walk.specs.Walk.{Rom, RomSet, Part, stop, found, walk_p}
 use Rattle.walk.specs.Names.{walk_names_p}
-use Rattle.walk.specs.Laws.Numbers.{Numbered, walk_numbered}
+use Rattle.walk.proofs.Laws.Numbers.{Numbered, walk_numbered}
 use Rattle.rom_rows.specs.Reply as rows
 use Rattle.sets_source.specs.declared.SetsSource.{SetsSource}
 use Rattle.sets_source.specs.Looked.{Looked, set_count, sets_pointer, metadata_ended}

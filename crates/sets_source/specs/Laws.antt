@@ -2,7 +2,7 @@
 -- Assumes nothing.
 use Rattle.std.specs.Prelude.{ℕ, ◌≡◌, true, false, List}
 use Rattle.prog.specs.Prog.{run}
-use Rattle.prog.specs.Laws.Run.{run_done, run_map}
+use Rattle.prog.proofs.Laws.Run.{run_done, run_map}
 use Rattle.header.specs.declared.SdrrInfoHeader.{SdrrInfoHeader}
 use Rattle.version.specs.Version.{from050}
 use Rattle.metadata.specs.Metadata.{metadata_p}

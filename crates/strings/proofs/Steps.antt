@@ -16,8 +16,8 @@ use Rattle.prog.specs.Prog.{run}
 use Rattle.utf8.specs.Utf8.{is_utf8}
 use Rattle.utf8.specs.Points.{points}
 use Rattle.text.specs.Text.{accepted_text, bytes_of, before_nul, judged, text_p}
-use Rattle.text.specs.Laws.Nul.{before_front}
-use Rattle.text.specs.Laws.Chunks.{text_accepted}
+use Rattle.text.proofs.Laws.Nul.{before_front}
+use Rattle.text.proofs.Laws.Chunks.{text_accepted}
 use Rattle.text.specs.declared.Text.{Text as Str}
 use Rattle.chunks.proofs.Steps.{judged_good, rest_start, rest_judged}
 use Rattle.strings.specs.Code.{ascii_front}

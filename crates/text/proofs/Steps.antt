@@ -6,7 +6,7 @@ use mathlib.Core.List.{List}
 use lib.ListN.{length, take, drop}
 use Rattle.window.specs.Laws.{part}
 use Rattle.text.specs.Text.{part_of}
-use Rattle.text.specs.Laws.Chunks.{part_inside}
+use Rattle.text.proofs.Laws.Chunks.{part_inside}
 use Rattle.text.specs.declared.Text.{Text as Str}
 
 -- a part `&image[from..to]`, as the code has it

@@ -2,4 +2,3 @@ pub mod Utf8
 pub mod Rfc3629
 pub mod Points
 pub mod Examples
-pub mod Laws

@@ -2,5 +2,4 @@ pub mod Walk
 pub mod Rows
 pub mod Names
 pub mod Code
-pub mod Laws
 pub mod Examples

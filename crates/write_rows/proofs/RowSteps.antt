@@ -13,7 +13,7 @@ use Rattle.base.specs.Choice.{pick}
 use Rattle.window.specs.Window.{on_from}
 use Rattle.le.specs.Le.{u8_at, u32_at}
 use Rattle.prog.specs.Prog.{run}
-use Rattle.prog.specs.Laws.Run.{run_done}
+use Rattle.prog.proofs.Laws.Run.{run_done}
 use Rattle.rows.specs.LentRows.{set_row_length, rom_row_length}
 use Rattle.text.specs.declared.Text.{Text}
 use Rattle.text.specs.Text.{refused_text, text_p}
@@ -23,9 +23,9 @@ use Rattle.set_header.specs.SetHeader.{info_pointer}
 use Rattle.walk.specs.Rows.{set_row, counts_of, set_rows_of}
 use Rattle.walk.specs.Code.Passes.{rom_at, roms_at, set_of, part_roms, set_address, sets_at}
 use Rattle.write_rows.specs.Code.{set_row_words, rom_row_words, set_words, rom_words, named_row, named_rows, named_append, named_row_length, named_length}
-use Rattle.walk.specs.Laws.Passes.{sets_length}
-use Rattle.walk.specs.Laws.Rows.{set_rows_length, set_rows_more, roms_more}
-use Rattle.walk.specs.Laws.Total.{sets_more, total_roms}
+use Rattle.walk.proofs.Laws.Passes.{sets_length}
+use Rattle.walk.proofs.Laws.Rows.{set_rows_length, set_rows_more, roms_more}
+use Rattle.walk.proofs.Laws.Total.{sets_more, total_roms}
 
 -- ---- a ROM's name and row
 

@@ -10,8 +10,8 @@ use Rattle.text.specs.declared.Text.{Text}
 use Rattle.walk.specs.Walk.{Rom, rom_of}
 use Rattle.walk.specs.Rows.{set_row, rom_front, name_words, rom_row, rom_rows_of}
 use Rattle.walk.specs.Names.{name_p, names_p}
-use Rattle.walk.specs.Laws.Rows.{rom_row_length_is}
-use Rattle.walk.specs.Laws.NameWords.{names_cons}
+use Rattle.walk.proofs.Laws.Rows.{rom_row_length_is}
+use Rattle.walk.proofs.Laws.NameWords.{names_cons}
 use Rattle.set_header.specs.SetHeader.{config_of, overrides_of}
 use Rattle.walk.specs.Code.Passes.{set_of}
 

@@ -9,7 +9,7 @@ use Rattle.info.specs.declared.SdrrAddress.{SdrrAddress}
 use Rattle.info.specs.Lent.{Lent, demangle_byte}
 use Rattle.info.specs.Reads.{byte, physical, rom_read}
 use Rattle.set_data.specs.Code.{set_data}
-use Rattle.info.specs.Laws.Calls.{place, read_beyond}
+use Rattle.info.proofs.Laws.Calls.{place, read_beyond}
 use Rattle.byte_reads.specs.declared.ByteRead.{ByteRead}
 use Rattle.byte_reads.specs.Calls.{byte_of}
 use Rattle.byte_reads.specs.Code.{shown_from}

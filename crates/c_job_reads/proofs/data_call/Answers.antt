@@ -1,7 +1,7 @@
 use Rattle.std.proofs.Common.{[], length, sym, ap, ◌∙◌}
 use Rattle.info.specs.Lent.{lent_by}
 use Rattle.info.specs.Reads.{range, Reply, buffer_left}
-use Rattle.jobs.specs.Laws.Tested.{none_read, none_left, none_buffer, its_read, its_left}
+use Rattle.jobs.proofs.Laws.Tested.{none_read, none_left, none_buffer, its_read, its_left}
 use Rattle.c_handed.specs.Handed.{board_in}
 use Rattle.c_reads.specs.Code.{data_on_count}
 use Rattle.c_job_reads.specs.Reads.{data_call}

@@ -2,7 +2,7 @@ use Rattle.std.proofs.Common.{true, sym, ap, ◌∙◌}
 use Rattle.info.specs.Lent.{lent_by}
 use Rattle.info.specs.Reads.{byte, Reply}
 use Rattle.byte_reads.specs.Calls.{byte_of}
-use Rattle.jobs.specs.Laws.Tested.{none_read, none_left, its_read, its_left}
+use Rattle.jobs.proofs.Laws.Tested.{none_read, none_left, its_read, its_left}
 use Rattle.c_handed.specs.Handed.{board_in}
 use Rattle.c_board.specs.Board.{address_from}
 use Rattle.c_board.specs.Value.{value_after}

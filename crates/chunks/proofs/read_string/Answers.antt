@@ -1,5 +1,5 @@
 use Rattle.std.proofs.Common.{arith, sym}
-use Rattle.text.specs.Laws.Chunks.{text_below}
+use Rattle.text.proofs.Laws.Chunks.{text_below}
 use Rattle.chunks.proofs.Steps.{rest_start, rest_full, rest_refused, rest_fits, rest_judged, rest_again}
 use Rattle.chunks.proofs.read_string.Goals as goal
 

@@ -8,7 +8,7 @@ use Rattle.info.specs.Lent.{Lent, lent_by, size_of}
 use Rattle.info.specs.Reads.{range, rom_read, buffer_left, stored_p, finished, read_p}
 use Rattle.board.specs.declared.Board.{Board}
 use Rattle.set_data.specs.Code.{set_data}
-use Rattle.info.specs.Laws.Calls.{place}
+use Rattle.info.proofs.Laws.Calls.{place}
 use Rattle.set_data.specs.Laws.{stands_inside}
 use Rattle.data_reads.specs.Code.{placed_of}
 use Rattle.data_reads.specs.Laws.Steps.{placed_stands, data_accepted}

@@ -11,7 +11,7 @@ use Rattle.info.specs.Reads.{count_number, range, stored_p, finished, Reply, rea
 use Rattle.set_data.specs.declared.SetData.{SetData}
 use Rattle.set_data.specs.declared.Found.{Found}
 use Rattle.set_data.specs.Code.{set_data, not_found, found_of}
-use Rattle.info.specs.Laws.Calls.{read_beyond, read_within}
+use Rattle.info.proofs.Laws.Calls.{read_beyond, read_within}
 use Rattle.set_data.specs.Laws.{Stands, found_stands, stands_inside, bytes_at, data_found}
 use Rattle.data_reads.specs.Code.{placed_of}
 

@@ -1,5 +1,5 @@
 use Rattle.std.proofs.Common.{rules}
-use Rattle.prog.specs.Laws.Record.{pointer_refused, pointer_read}
+use Rattle.prog.proofs.Laws.Record.{pointer_refused, pointer_read}
 use Rattle.extra_info.specs.ExtraInfo.{refused_extra_info, extra_info_of, extra_info_p}
 use Rattle.extra_info.specs.Laws.{extra_info_front}
 use Rattle.extra_info.proofs.read_extra_info.Goals as goal

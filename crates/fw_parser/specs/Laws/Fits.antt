@@ -12,7 +12,7 @@ use Rattle.base.specs.Laws.{cases, clash}
 use Rattle.base.specs.Choice.{pick}
 use Rattle.window.specs.Window.{base_after, beyond_window}
 use Rattle.prog.specs.Prog.{run}
-use Rattle.prog.specs.Laws.Run.{run_done, run_bind, run_map}
+use Rattle.prog.proofs.Laws.Run.{run_done, run_bind, run_map}
 use Rattle.text.specs.declared.Text.{Text}
 use Rattle.header.specs.declared.SdrrInfoHeader.{SdrrInfoHeader}
 use Rattle.header.specs.declared.HeaderAnswer.{HeaderAnswer}

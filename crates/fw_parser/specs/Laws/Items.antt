@@ -9,7 +9,7 @@ use Rattle.base.specs.Laws.{clash}
 use Rattle.base.specs.Choice.{pick}
 use Rattle.window.specs.Window.{base_after}
 use Rattle.prog.specs.Prog.{Prog, done, ◌>>=◌, map_p, run}
-use Rattle.prog.specs.Laws.Run.{run_bind, run_map, run_also}
+use Rattle.prog.proofs.Laws.Run.{run_bind, run_map, run_also}
 use Rattle.text.specs.declared.Text.{Text}
 use Rattle.text.specs.Text.{refused_text, text_p}
 use Rattle.header.specs.declared.SdrrInfoHeader.{SdrrInfoHeader}
@@ -22,8 +22,8 @@ use Rattle.pins.specs.Pins.{pins_p}
 use Rattle.walk.specs.Walk.{RomSet, Part, stop, found, roms_of}
 use Rattle.walk.specs.Rows.{short_sets, short_roms}
 use Rattle.walk.specs.Names.{walk_names_p}
-use Rattle.walk.specs.Laws.Ended.{names_each, no_name_shown}
-use Rattle.walk.specs.Laws.NameWords.{NameRead, walk_names_read}
+use Rattle.walk.proofs.Laws.Ended.{names_each, no_name_shown}
+use Rattle.walk.proofs.Laws.NameWords.{NameRead, walk_names_read}
 use Rattle.window.specs.declared.Settings.{Settings}
 use Rattle.sdrr_info.specs.declared.SdrrInfo.{SdrrInfo}
 use Rattle.fw_parser.specs.Opening.{Looked, look_p, Sets, sets_item_p, Items, ItemAnswers, items_of, items_p, metadata_item, sets_item, report_of, sets_of, refused, opened, verdict, after_header, open_p}

@@ -11,7 +11,7 @@ use Rattle.text.specs.declared.Text.{Text}
 use Rattle.walk.specs.Walk.{RomSet, roms_of}
 use Rattle.rows.specs.LentRows.{set_row_length, rom_row_length}
 use Rattle.walk.specs.Rows.{set_rows_of, rom_rows_of}
-use Rattle.walk.specs.Laws.Rows.{set_rows_length, rom_rows_length}
+use Rattle.walk.proofs.Laws.Rows.{set_rows_length, rom_rows_length}
 use Rattle.window.specs.declared.Settings.{Settings}
 use Rattle.sdrr_info.specs.declared.SdrrInfo.{SdrrInfo}
 use Rattle.fw_parser.specs.declared.Opening.{Opening}

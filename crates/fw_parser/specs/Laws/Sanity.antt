@@ -4,14 +4,14 @@ use Rattle.std.specs.Prelude.{ℕ, ◌≡◌, refl, Bool, true, false, List, [],
 use Rattle.std.proofs.Common.{arith, sym, subst}
 use Rattle.base.specs.Choice.{pick}
 use Rattle.prog.specs.Prog.{run, done}
-use Rattle.prog.specs.Laws.Run.{run_done, run_map}
+use Rattle.prog.proofs.Laws.Run.{run_done, run_map}
 use Rattle.text.specs.declared.Text.{Text}
 use Rattle.header.specs.declared.SdrrInfoHeader.{SdrrInfoHeader}
 use Rattle.header.specs.declared.SdrrInfoFields.{SdrrInfoFields}
 use Rattle.version.specs.Version.{from060}
 use Rattle.walk.specs.Walk.{RomSet, Part, stop, found, walk_p, roms_of, extra_byte, stride}
 use Rattle.walk.specs.Rows.{counts_of}
-use Rattle.walk.specs.Laws.Found.{Sound, Counted, walk_sound, counts_roms}
+use Rattle.walk.proofs.Laws.Found.{Sound, Counted, walk_sound, counts_roms}
 use Rattle.window.specs.declared.Settings.{Settings}
 use Rattle.sets_item.specs.declared.SetsItem.{SetsItem}
 use Rattle.sdrr_info.specs.declared.SdrrInfo.{SdrrInfo}

@@ -10,7 +10,7 @@ use Rattle.base.specs.Laws.{clash}
 use Rattle.base.specs.Choice.{pick}
 use Rattle.window.specs.Window.{base_after, beyond_window}
 use Rattle.prog.specs.Prog.{run}
-use Rattle.prog.specs.Laws.Run.{run_done, run_bind, run_map, run_also}
+use Rattle.prog.proofs.Laws.Run.{run_done, run_bind, run_map, run_also}
 use Rattle.text.specs.declared.Text.{Text}
 use Rattle.text.specs.Text.{text_p}
 use Rattle.header.specs.declared.SdrrInfoHeader.{SdrrInfoHeader}
@@ -21,7 +21,7 @@ use Rattle.pins.specs.Pins.{pins_p}
 use Rattle.walk.specs.Walk.{RomSet, Part, stop, found, roms_of}
 use Rattle.walk.specs.Names.{walk_names_p}
 use Rattle.walk.specs.Rows.{set_rows_of, set_rows_after, rom_rows_of, short_sets, short_roms, overwritten}
-use Rattle.walk.specs.Laws.Numbers.{Numbered}
+use Rattle.walk.proofs.Laws.Numbers.{Numbered}
 use Rattle.rom_rows.specs.Reply as rows
 use Rattle.records.specs.declared.Records.{Records}
 use Rattle.sets_source.specs.Code.{source_of}

@@ -5,14 +5,14 @@ use Rattle.std.specs.Prelude.{ℕ, ◌*◌, ◌≤◌, ◌<◌, ◌≡◌, refl,
 use Rattle.std.proofs.Common.{arith, sym, ap, ◌∙◌, subst}
 use Rattle.prog.specs.Prog.{run}
 use Rattle.rows.specs.LentRows.{name_offset, name_length, name_reason, name_width}
-use Rattle.utf8.specs.Laws.Points.{outside}
+use Rattle.utf8.proofs.Laws.Points.{outside}
 use Rattle.text.specs.declared.Text.{Text}
 use Rattle.text.specs.Text.{refused_text, text_p}
-use Rattle.text.specs.Laws.Chunks.{text_refused}
-use Rattle.text.specs.Laws.Width.{Wide, text_wide}
+use Rattle.text.proofs.Laws.Chunks.{text_refused}
+use Rattle.text.proofs.Laws.Width.{Wide, text_wide}
 use Rattle.walk.specs.Walk.{roms_of}
 use Rattle.walk.specs.Rows.{rom_rows_of, overwritten}
-use Rattle.walk.specs.Laws.NameWords.{NameWords, rows_words, NameRead, unread, read}
+use Rattle.walk.proofs.Laws.NameWords.{NameWords, rows_words, NameRead, unread, read}
 use Rattle.window.specs.declared.Settings.{Settings}
 use Rattle.fw_parser.specs.Laws.Items.{opened_strings, opened_names_read}
 use Rattle.fw_parser.specs.Laws.Fits.{opened_run}

@@ -3,7 +3,7 @@ use Rattle.info.specs.Lent.{lent_by}
 use Rattle.info.specs.Reads.{own}
 use Rattle.byte_reads.specs.declared.ByteRead.{ByteRead}
 use Rattle.byte_reads.specs.Calls.{byte_of}
-use Rattle.jobs.specs.Laws.Tested.{none_read, none_left, its_read, its_left}
+use Rattle.jobs.proofs.Laws.Tested.{none_read, none_left, its_read, its_left}
 use Rattle.job_reads.proofs.read_rom_byte_own.Goals as goal
 
 pub returns-then-not-is_job-clause-reply : goal.returns-then-not-is_job-clause-reply

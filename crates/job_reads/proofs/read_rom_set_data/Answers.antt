@@ -3,7 +3,7 @@ use Rattle.info.specs.Lent.{lent_by}
 use Rattle.info.specs.Reads.{range, buffer_left}
 use Rattle.data_reads.specs.declared.Counted.{Counted}
 use Rattle.data_reads.specs.Calls.{counted_of}
-use Rattle.jobs.specs.Laws.Tested.{none_read, none_left, none_buffer, its_read, its_left}
+use Rattle.jobs.proofs.Laws.Tested.{none_read, none_left, none_buffer, its_read, its_left}
 use Rattle.job_reads.proofs.read_rom_set_data.Goals as goal
 
 pub returns-then-not-is_job-clause-reply : goal.returns-then-not-is_job-clause-reply

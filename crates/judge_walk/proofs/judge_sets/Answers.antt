@@ -3,7 +3,7 @@ use Rattle.judge_walk.specs.Code.{walked_good, walked_bad}
 use Rattle.walk.specs.Rows.{counts_of}
 use Rattle.walk.specs.Code.Passes.{sets_number, set_address, sets_at}
 use Rattle.set_header.specs.Laws.{stride_bound}
-use Rattle.walk.specs.Laws.Total.{address_bound, address_step, total_step, total_roms}
+use Rattle.walk.proofs.Laws.Total.{address_bound, address_step, total_step, total_roms}
 use Rattle.judge_walk.proofs.Steps.{sets_stop, sets_next}
 use Rattle.judge_walk.proofs.judge_sets.Goals as goal
 

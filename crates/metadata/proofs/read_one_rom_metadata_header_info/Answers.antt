@@ -1,5 +1,5 @@
 use Rattle.std.proofs.Common.{rules}
-use Rattle.prog.specs.Laws.Record.{pointer_refused, pointer_read}
+use Rattle.prog.proofs.Laws.Record.{pointer_refused, pointer_read}
 use Rattle.metadata.specs.Metadata.{refused_metadata, metadata_of, metadata_p}
 use Rattle.metadata.specs.Laws.{metadata_front}
 use Rattle.metadata.proofs.read_one_rom_metadata_header_info.Goals as goal

@@ -19,8 +19,8 @@ use Rattle.info.specs.Lent.{Lent, lent_by}
 use Rattle.info.specs.Reads.{RomRead, range, byte, own, shown_byte, stored_p, finished, read_p, Reply, refused_reply, rom_read}
 use Rattle.job_counts.specs.Counts.{count_of}
 use Rattle.jobs.specs.Jobs.{job_read}
-use Rattle.jobs.specs.Laws.Steps.{no_job_read, job_read_is}
-use Rattle.jobs.specs.Laws.Carry.{job_same, job_kept}
+use Rattle.jobs.proofs.Laws.Steps.{no_job_read, job_read_is}
+use Rattle.jobs.proofs.Laws.Carry.{job_same, job_kept}
 use Rattle.window.specs.declared.Settings.{Settings}
 use Rattle.sdrr_info.specs.declared.SdrrInfo.{SdrrInfo}
 use Rattle.sdrr_info.specs.Report.{board_of}
@@ -28,7 +28,7 @@ use Rattle.fw_parser.specs.Opening.{Opened, refused, set_rows_left, rom_rows_lef
 use Rattle.fw_parser.specs.Reply.{opening_reply}
 use Rattle.opened_board.specs.ReadAfter.{read_after}
 use Rattle.cut_short.specs.Demand3.{Opens, Demand3}
-use Rattle.cut_short.specs.Laws.Proof.{demand3, refused_refuses}
+use Rattle.cut_short.proofs.Laws.Proof.{demand3, refused_refuses}
 use Rattle.c_board.specs.Board.{levels_from, address_from}
 use Rattle.c_report.specs.declared.OneromReport.{OneromReport}
 use Rattle.c_report.specs.Report.{report_out}

@@ -7,14 +7,14 @@ use Rattle.rows.specs.Laws.{width_altered, altered_length, altered_types}
 use Rattle.walk.specs.Walk.{roms_of}
 use Rattle.window.specs.declared.Settings.{Settings}
 use Rattle.info.specs.Reads.{byte, own}
-use Rattle.info.specs.Laws.RomRows.{mangle_by_types, width_altered_reads}
-use Rattle.jobs.specs.Laws.Carry.{job_same}
+use Rattle.info.proofs.Laws.RomRows.{mangle_by_types, width_altered_reads}
+use Rattle.jobs.proofs.Laws.Carry.{job_same}
 use Rattle.same_set.specs.Same.{same_set}
 use Rattle.same_set.specs.Laws.{width_altered_same}
 use Rattle.fw_parser.specs.Opening.{rom_rows_left}
 use Rattle.fw_parser.specs.Laws.Promises.{accepted_changes_rows}
 use Rattle.fw_parser.specs.Laws.Strings as opening
-use Rattle.cut_short.specs.Laws.CutNames as cut_names
+use Rattle.cut_short.proofs.Laws.CutNames as cut_names
 use Rattle.c_board.specs.Board.{levels_from, address_from}
 use Rattle.c_report.specs.declared.OneromReport.{OneromReport}
 use Rattle.c_handed.specs.Handed.{board_in}

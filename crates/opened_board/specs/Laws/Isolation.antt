@@ -8,7 +8,7 @@ use Rattle.window.specs.declared.Settings.{Settings}
 use Rattle.job_counts.specs.Counts.{count_of}
 use Rattle.jobs.specs.Histories.{read_reply_of, jobs_by, gain_of}
 use Rattle.jobs.specs.Isolated.{Isolated}
-use Rattle.jobs.specs.Laws.History.{isolated}
+use Rattle.jobs.proofs.Laws.History.{isolated}
 use Rattle.fw_parser.specs.Opening.{open_with}
 use Rattle.opened_board.specs.ReadAfter.{read_after}
 use Rattle.opened_board.specs.Histories.{BoardCall, on_board, at_opening}

@@ -13,7 +13,7 @@ use Rattle.rows.specs.LentRows.{set_row_length, rom_row_length, set_place, set_w
 use Rattle.governing.specs.Governing.{governing, governing_own}
 use Rattle.info.specs.Lent.{Lent, mangled_by, mangle_own}
 use Rattle.info.specs.Reads.{Bytes, own, own_physical, shown_byte, data_p, stored_p, finished, read_reply, rom_read}
-use Rattle.info.specs.Laws.Calls.{read_beyond, read_within}
+use Rattle.info.proofs.Laws.Calls.{read_beyond, read_within}
 use Rattle.own_reads.specs.Laws.Numbers.{leads_without_rom}
 
 -- alike in the line, the pins, the sets served, the named set's row and, where it has ROMs, its first ROM row's type: lent in both or in neither

@@ -15,12 +15,12 @@ use Rattle.mangle.specs.Mangle.{mangle_core}
 use Rattle.mangle.specs.Laws.Bits.{no_rom}
 use Rattle.governing.specs.declared.GoverningSet.{GoverningSet}
 use Rattle.governing.specs.Governing.{ungoverned, lacks_first_rom, governing, governing_own}
-use Rattle.governing.specs.Laws.{no_set_row, by_set, governing_lent, governing_4, own_no_set, own_no_row, own_no_pins, own_by_set}
+use Rattle.governing.proofs.Laws.{no_set_row, by_set, governing_lent, governing_4, own_no_set, own_no_row, own_no_pins, own_by_set}
 use Rattle.info.specs.declared.SdrrAddress.{SdrrAddress}
 use Rattle.info.specs.Lent.{Lent, unmangled, mangled_by}
 use Rattle.info.specs.Reads.{byte, own, own_physical, Reply, rom_read}
-use Rattle.info.specs.Laws.Steps.{not_governed, governed, own_in_two}
-use Rattle.info.specs.Laws.Calls.{read_beyond}
+use Rattle.info.proofs.Laws.Steps.{not_governed, governed, own_in_two}
+use Rattle.info.proofs.Laws.Calls.{read_beyond}
 use Rattle.set_data.specs.Code.{set_data, found_of}
 use Rattle.byte_reads.specs.declared.ByteRead.{ByteRead}
 use Rattle.byte_reads.specs.Calls.{byte_of}

@@ -13,8 +13,8 @@ use Rattle.governing.specs.Governing.{governing, governing_own}
 use Rattle.info.specs.declared.SdrrAddress.{SdrrAddress}
 use Rattle.info.specs.Lent.{Lent, unmangled, mangle_own, demangle_byte}
 use Rattle.info.specs.Reads.{byte, own, own_physical, Reply, refused_reply, rom_read}
-use Rattle.info.specs.Laws.Steps.{mangled_governed}
-use Rattle.info.specs.Laws.Calls.{place, read_beyond}
+use Rattle.info.proofs.Laws.Steps.{mangled_governed}
+use Rattle.info.proofs.Laws.Calls.{place, read_beyond}
 use Rattle.byte_reads.specs.declared.ByteRead.{ByteRead}
 use Rattle.byte_reads.specs.Calls.{byte_of}
 use Rattle.byte_reads.specs.Code.{shown_from}

@@ -10,12 +10,12 @@ use Rattle.window.specs.Window.{beyond_window}
 use Rattle.mangle.specs.declared.Mangled.{Mangled}
 use Rattle.governing.specs.declared.GoverningSet.{GoverningSet}
 use Rattle.governing.specs.Governing.{ungoverned, governing, governing_set0, governing_own}
-use Rattle.governing.specs.Laws.{no_pins, no_sets, by_set_0, own_no_row, own_by_set}
+use Rattle.governing.proofs.Laws.{no_pins, no_sets, by_set_0, own_no_row, own_by_set}
 use Rattle.info.specs.declared.SdrrAddress.{SdrrAddress}
 use Rattle.info.specs.Lent.{Lent, unmangled, mangled_by}
 use Rattle.info.specs.Reads.{byte, own, physical, own_physical, Reply, refused_reply, rom_read}
-use Rattle.info.specs.Laws.Steps.{not_governed, in_two, own_in_two}
-use Rattle.info.specs.Laws.Calls.{read_beyond}
+use Rattle.info.proofs.Laws.Steps.{not_governed, in_two, own_in_two}
+use Rattle.info.proofs.Laws.Calls.{read_beyond}
 use Rattle.own_reads.specs.Laws.Steps.{own_as_byte, byte_unmangled, own_unmangled}
 use Rattle.own_reads.specs.Laws.Numbers.{lacks_rows, lacks_rows_is, leads_80, leads_4, leads_70, never_70, never_71}
 

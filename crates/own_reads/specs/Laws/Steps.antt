@@ -10,14 +10,14 @@ use Rattle.base.specs.Choice.{pick}
 use Rattle.types.specs.declared.SdrrCsSet.{SdrrCsSet}
 use Rattle.window.specs.Window.{base_after, beyond_window}
 use Rattle.prog.specs.Prog.{map_p, run}
-use Rattle.prog.specs.Laws.Run.{run_done, run_map}
+use Rattle.prog.proofs.Laws.Run.{run_done, run_map}
 use Rattle.mangle.specs.declared.Mangled.{Mangled}
-use Rattle.governing.specs.Laws.{Governs}
+use Rattle.governing.proofs.Laws.{Governs}
 use Rattle.info.specs.declared.SdrrAddress.{SdrrAddress}
 use Rattle.info.specs.Lent.{Lent}
 use Rattle.info.specs.Reads.{no_bytes, byte, own, physical, own_physical, byte_p, stored_p, finished, read_p, Reply, read_reply, refused_reply, rom_read}
-use Rattle.info.specs.Laws.Steps.{own_accepted}
-use Rattle.info.specs.Laws.Calls.{read_beyond}
+use Rattle.info.proofs.Laws.Steps.{own_accepted}
+use Rattle.info.proofs.Laws.Calls.{read_beyond}
 use Rattle.byte_reads.specs.declared.ByteRead.{ByteRead}
 use Rattle.byte_reads.specs.Calls.{byte_of}
 use Rattle.byte_reads.specs.Code.{no_byte, byte_at, shown_from}

@@ -1,5 +1,5 @@
 use Rattle.std.proofs.Common.{rules}
-use Rattle.prog.specs.Laws.Record.{pointer_refused, pointer_read}
+use Rattle.prog.proofs.Laws.Record.{pointer_refused, pointer_read}
 use Rattle.pins.specs.Pins.{refused_pins, pins_of, pins_p}
 use Rattle.pins.specs.Laws.{pins_front}
 use Rattle.pins_record.proofs.read_pins.Goals as goal

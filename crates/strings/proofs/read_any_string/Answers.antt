@@ -1,6 +1,6 @@
 use Rattle.std.proofs.Common.{arith, ◌∙◌, ap, sym}
 use Rattle.text.specs.Text.{refused_text}
-use Rattle.text.specs.Laws.Chunks.{text_refused}
+use Rattle.text.proofs.Laws.Chunks.{text_refused}
 use Rattle.strings.proofs.Steps.{made_whole, part_short}
 use Rattle.strings.proofs.read_any_string.Goals as goal
 

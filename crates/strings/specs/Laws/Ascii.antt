@@ -7,8 +7,8 @@ use Rattle.base.specs.Laws.{cases, both_false}
 use Rattle.utf8.specs.Rfc3629.{x00_7f, Utf8Char, one}
 use Rattle.utf8.specs.Utf8.{lacking, is_utf8}
 use Rattle.utf8.specs.Points.{points}
-use Rattle.utf8.specs.Laws.Chars.{on_char}
-use Rattle.utf8.specs.Laws.Points.{points_empty, points_char}
+use Rattle.utf8.proofs.Laws.Chars.{on_char}
+use Rattle.utf8.proofs.Laws.Points.{points_empty, points_char}
 use Rattle.text.specs.Text.{before_nul}
 use Rattle.strings.specs.Code.{ascii_front}
 

@@ -4,7 +4,7 @@ use Rattle.walk.specs.Rows.{counts_of, set_rows_after}
 use Rattle.walk.specs.Code.Passes.{set_address, sets_at}
 use Rattle.write_rows.specs.Code.{named_rows}
 use Rattle.set_header.specs.Laws.{stride_bound}
-use Rattle.walk.specs.Laws.Total.{address_bound, address_step, total_step, total_within}
+use Rattle.walk.proofs.Laws.Total.{address_bound, address_step, total_step, total_within}
 use Rattle.write_rows.proofs.RowSteps.{sets_write, all_write}
 use Rattle.write_rows.proofs.write_rom_sets.Goals as goal
 

@@ -1,0 +1,3 @@
+pub mod Follow
+pub mod Component
+pub mod Along

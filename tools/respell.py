@@ -13,8 +13,10 @@ import os
 import re
 import sys
 
-WORD = re.compile(r"(?<![A-Za-z0-9_'-])[A-Za-z_][A-Za-z0-9_'-]*(?<!-)")
+WORD = re.compile(r"(?<![A-Za-z0-9_'%-])[A-Za-z_][A-Za-z0-9_'-]*(?<!-)")
 IMPORT = re.compile(r"\buse\s+([\w.]+)\.\{([^}]*)\}", re.S)
+# a rule of the UTF-8 grammar, named by its first octets
+OCTETS = re.compile(r"[a-z][0-9A-F]{2}(-[0-9A-F]{2})?")
 CODE = re.compile(r"`[^`\n]*`")
 TEXTS = (".md", ".py", ".sh", ".h", ".c", ".rs")
 # Names that would fall together with another one: a law with the definition that it is about, rows with the argument that holds them.
@@ -22,6 +24,13 @@ OTHER = {
     "setRows": "set_rows_of",
     "romRows": "rom_rows_of",
     "is28C16": "is_28c16",
+    # by the grammar's names, UTF8-1 to UTF8-4
+    "Utf8-1": "Utf8One",
+    "Utf8-2": "Utf8Two",
+    "Utf8-3": "Utf8Three",
+    "Utf8-4": "Utf8Four",
+    "T-both": "t_both",
+    "T-not-true": "t_not_true",
 } | {law: law.replace("-", "_") + "_is" for law in """job-read read-reply items-of all-high word-number any-after lacks-rows rest-on
     before-nul rom-row-length set-row-length not-looked-for counts-left some-counted sets-number metadata-ended data-read sets-after short-sets
     short-roms""".split()}
@@ -30,11 +39,13 @@ OTHER = {
 def snake(name):
     if name in OTHER:
         return OTHER[name]
+    if OCTETS.fullmatch(name):
+        return name.replace("-", "_").lower()
     return re.sub(r"(?<=[a-z])(?=[A-Z])|(?<=[0-9])(?=[A-Z][a-z])|-", "_", name).lower()
 
 
 def old_spelling(word):
-    return word[0].islower() and bool(re.search(r"[A-Z-]", word)) and not word.endswith("-")
+    return word in OTHER or word[0].islower() and bool(re.search(r"[A-Z-]", word))
 
 
 def files(root, ends):

@@ -4,17 +4,17 @@ use Rattle.std.proofs.Common.{◌∙◌, arith, eqb→eq, lit≤, leb-true, le-l
 use Rattle.std.proofs.lemmas.Bool.{false≢true, lt-leb}
 use Rattle.base.specs.Laws.{both_true}
 use Rattle.utf8.specs.Utf8.{within, class_of, begins, low_after, high_after, lacking, is_utf8}
-use Rattle.utf8.specs.Rfc3629.{Octet, Utf8Tail, x00_7f, x_c2_df, x_e0, x_e1_ec, x_ed, x_ee_ef, x_f0, x_f1_f3, x_f4, Utf8Char, one, two, three, four, Utf8Octets, none, char}
+use Rattle.utf8.specs.Rfc3629.{Octet, Utf8Tail, x00_7f, xc2_df, xe0, xe1_ec, xed, xee_ef, xf0, xf1_f3, xf4, Utf8Char, one, two, three, four, Utf8Octets, none, char}
 
 -- Tests: of both, of a range, of each number of a range.
 
-pub T-both : (p q : Bool) → T (p && q) → T p × T q
-T-both true q t = (tt, t)
-T-both false q t = absurd t
+pub t_both : (p q : Bool) → T (p && q) → T p × T q
+t_both true q t = (tt, t)
+t_both false q t = absurd t
 
-T-not-true : (p : Bool) → T (not p) → p ≡ true → ⊥
-T-not-true true t e = t
-T-not-true false t e = false≢true e
+t_not_true : (p : Bool) → T (not p) → p ≡ true → ⊥
+t_not_true true t e = t
+t_not_true false t e = false≢true e
 
 pub in_within : {low high b : ℕ} → Octet low high b → within low high b ≡ true
 in_within {low} {high} {b} i = rw (le-leb low b i.least, le-leb b high i.most)
@@ -46,7 +46,7 @@ passes f low (suc n) = f low && passes f (suc low) n
 passed : (f : ℕ → Bool) (low n a : ℕ) → T (passes f low n) → low ≤ a → a ≤ low + n → T (f a)
 passed f low zero a t p q = let e : a ≡ low = omega arith in rw e t
 passed f low (suc n) a t p q =
-    let u = T-both (f low) (passes f (suc low) n) t in
+    let u = t_both (f low) (passes f (suc low) n) t in
     below a (suc low) (λ h. let e : a ≡ low = omega arith in rw e u.0) (λ h. passed f (suc low) n a u.1 h (omega arith))
 
 pub in_range : (f : ℕ → Bool) {low high a : ℕ} → Octet low high a → T (passes f low (high - low)) → T (f a)
@@ -73,7 +73,7 @@ on_tail : (n : ℕ) {from to p low high b : ℕ} → Octet from to p → Octet l
     → (s : List ℕ) → lacking (suc n) p (b ∷ s) ≡ lacking n b s
 unfolding lacking
 on_tail n {p = p} {low = low} {high = high} i j t s =
-    let u = T-both (eqb (low_after p) low) (eqb (high_after p) high) (in_range (limits low high) i t) in
+    let u = t_both (eqb (low_after p) low) (eqb (high_after p) high) (in_range (limits low high) i t) in
     rw (eqb→eq (low_after p) low u.0, eqb→eq (high_after p) high u.1, in_within j)
 
 -- where nothing is lacking, the byte before says nothing
@@ -86,15 +86,15 @@ anew p (a ∷ s) = refl
 pub on_char : {c : List ℕ} → Utf8Char c → (s : List ℕ) → is_utf8 (c ++ s) ≡ is_utf8 s
 unfolding class_of low_after high_after
 on_char (one (x00_7f i)) s = on_lead 1 i tt s ∙ anew _ s
-on_char (two (x_c2_df i p)) s = on_lead 2 i tt _ ∙ on_tail 0 i p tt s ∙ anew _ s
-on_char (three (x_e0 p q)) s = on_lead 3 (octet 0xE0) tt _ ∙ on_tail 1 (octet 0xE0) p tt _ ∙ on_tail 0 p q tt s ∙ anew _ s
-on_char (three (x_e1_ec i p q)) s = on_lead 3 i tt _ ∙ on_tail 1 i p tt _ ∙ on_tail 0 p q tt s ∙ anew _ s
-on_char (three (x_ed p q)) s = on_lead 3 (octet 0xED) tt _ ∙ on_tail 1 (octet 0xED) p tt _ ∙ on_tail 0 p q tt s ∙ anew _ s
-on_char (three (x_ee_ef i p q)) s = on_lead 3 i tt _ ∙ on_tail 1 i p tt _ ∙ on_tail 0 p q tt s ∙ anew _ s
-on_char (four (x_f0 p q r)) s =
+on_char (two (xc2_df i p)) s = on_lead 2 i tt _ ∙ on_tail 0 i p tt s ∙ anew _ s
+on_char (three (xe0 p q)) s = on_lead 3 (octet 0xE0) tt _ ∙ on_tail 1 (octet 0xE0) p tt _ ∙ on_tail 0 p q tt s ∙ anew _ s
+on_char (three (xe1_ec i p q)) s = on_lead 3 i tt _ ∙ on_tail 1 i p tt _ ∙ on_tail 0 p q tt s ∙ anew _ s
+on_char (three (xed p q)) s = on_lead 3 (octet 0xED) tt _ ∙ on_tail 1 (octet 0xED) p tt _ ∙ on_tail 0 p q tt s ∙ anew _ s
+on_char (three (xee_ef i p q)) s = on_lead 3 i tt _ ∙ on_tail 1 i p tt _ ∙ on_tail 0 p q tt s ∙ anew _ s
+on_char (four (xf0 p q r)) s =
     on_lead 4 (octet 0xF0) tt _ ∙ on_tail 2 (octet 0xF0) p tt _ ∙ on_tail 1 p q tt _ ∙ on_tail 0 q r tt s ∙ anew _ s
-on_char (four (x_f1_f3 i p q r)) s = on_lead 4 i tt _ ∙ on_tail 2 i p tt _ ∙ on_tail 1 p q tt _ ∙ on_tail 0 q r tt s ∙ anew _ s
-on_char (four (x_f4 p q r)) s =
+on_char (four (xf1_f3 i p q r)) s = on_lead 4 i tt _ ∙ on_tail 2 i p tt _ ∙ on_tail 1 p q tt _ ∙ on_tail 0 q r tt s ∙ anew _ s
+on_char (four (xf4 p q r)) s =
     on_lead 4 (octet 0xF4) tt _ ∙ on_tail 2 (octet 0xF4) p tt _ ∙ on_tail 1 p q tt _ ∙ on_tail 0 q r tt s ∙ anew _ s
 
 -- From the test to the grammar.
@@ -129,26 +129,26 @@ data Rest : ℕ → ℕ → List ℕ → Type 0 where
 -- The nine leads of the grammar, each with the number of continuation bytes after it.
 data Lead : ℕ → ℕ → Type 0 where
   l00_7f : {a : ℕ} → Octet 0x00 0x7F a → Lead a 0
-  l_c2_df : {a : ℕ} → Octet 0xC2 0xDF a → Lead a 1
-  l_e0 : Lead 0xE0 2
-  l_e1_ec : {a : ℕ} → Octet 0xE1 0xEC a → Lead a 2
-  l_ed : Lead 0xED 2
-  l_ee_ef : {a : ℕ} → Octet 0xEE 0xEF a → Lead a 2
-  l_f0 : Lead 0xF0 3
-  l_f1_f3 : {a : ℕ} → Octet 0xF1 0xF3 a → Lead a 3
-  l_f4 : Lead 0xF4 3
+  lc2_df : {a : ℕ} → Octet 0xC2 0xDF a → Lead a 1
+  le0 : Lead 0xE0 2
+  le1_ec : {a : ℕ} → Octet 0xE1 0xEC a → Lead a 2
+  led : Lead 0xED 2
+  lee_ef : {a : ℕ} → Octet 0xEE 0xEF a → Lead a 2
+  lf0 : Lead 0xF0 3
+  lf1_f3 : {a : ℕ} → Octet 0xF1 0xF3 a → Lead a 3
+  lf4 : Lead 0xF4 3
 
 first_char : {a n : ℕ} {s : List ℕ} → Lead a n → Rest n a s → Utf8Octets (a ∷ s)
 unfolding low_after high_after
 first_char (l00_7f i) (whole r) = char (one (x00_7f i)) r
-first_char (l_c2_df i) (more _ p (whole r)) = char (two (x_c2_df i p)) r
-first_char l_e0 (more i p (more _ q (whole r))) = char (three (x_e0 i q)) r
-first_char (l_e1_ec i) (more _ p (more _ q (whole r))) = char (three (x_e1_ec i p q)) r
-first_char l_ed (more i p (more _ q (whole r))) = char (three (x_ed i q)) r
-first_char (l_ee_ef i) (more _ p (more _ q (whole r))) = char (three (x_ee_ef i p q)) r
-first_char l_f0 (more i p (more _ q (more _ u (whole r)))) = char (four (x_f0 i q u)) r
-first_char (l_f1_f3 i) (more _ p (more _ q (more _ u (whole r)))) = char (four (x_f1_f3 i p q u)) r
-first_char l_f4 (more i p (more _ q (more _ u (whole r)))) = char (four (x_f4 i q u)) r
+first_char (lc2_df i) (more _ p (whole r)) = char (two (xc2_df i p)) r
+first_char le0 (more i p (more _ q (whole r))) = char (three (xe0 i q)) r
+first_char (le1_ec i) (more _ p (more _ q (whole r))) = char (three (xe1_ec i p q)) r
+first_char led (more i p (more _ q (whole r))) = char (three (xed i q)) r
+first_char (lee_ef i) (more _ p (more _ q (whole r))) = char (three (xee_ef i p q)) r
+first_char lf0 (more i p (more _ q (more _ u (whole r)))) = char (four (xf0 i q u)) r
+first_char (lf1_f3 i) (more _ p (more _ q (more _ u (whole r)))) = char (four (xf1_f3 i p q u)) r
+first_char lf4 (more i p (more _ q (more _ u (whole r)))) = char (four (xf4 i q u)) r
 
 -- what a byte that begins a character is
 record Found (a : ℕ) : Type 0 where
@@ -165,7 +165,7 @@ found_at {v} {n} l t a i = let e : a ≡ v = omega arith in rw e (record { n = n
 
 no_lead_80_c1 : (a : ℕ) → Octet 0x80 0xC1 a → begins (class_of a) ≡ true → ⊥
 unfolding class_of
-no_lead_80_c1 a i e = T-not-true (begins (class_of a)) (in_range (λ b. not (begins (class_of b))) i tt) e
+no_lead_80_c1 a i e = t_not_true (begins (class_of a)) (in_range (λ b. not (begins (class_of b))) i tt) e
 
 class_past_f4 : (a : ℕ) → 0xF4 < a → class_of a ≡ 5
 unfolding class_of
@@ -184,14 +184,14 @@ unfolding class_of
 find a t =
     below a 0x80 (λ k. let i : Octet 0x00 0x7F a = omega arith in found i (l00_7f i) tt) λ h.
     below a 0xC2 (λ k. absurd (no_lead_80_c1 a (omega arith) t)) λ h.
-    below a 0xE0 (λ k. let i : Octet 0xC2 0xDF a = omega arith in found i (l_c2_df i) tt) λ h.
-    below a 0xE1 (λ k. found_at l_e0 tt a (omega arith)) λ h.
-    below a 0xED (λ k. let i : Octet 0xE1 0xEC a = omega arith in found i (l_e1_ec i) tt) λ h.
-    below a 0xEE (λ k. found_at l_ed tt a (omega arith)) λ h.
-    below a 0xF0 (λ k. let i : Octet 0xEE 0xEF a = omega arith in found i (l_ee_ef i) tt) λ h.
-    below a 0xF1 (λ k. found_at l_f0 tt a (omega arith)) λ h.
-    below a 0xF4 (λ k. let i : Octet 0xF1 0xF3 a = omega arith in found i (l_f1_f3 i) tt) λ h.
-    below a 0xF5 (λ k. found_at l_f4 tt a (omega arith)) λ h.
+    below a 0xE0 (λ k. let i : Octet 0xC2 0xDF a = omega arith in found i (lc2_df i) tt) λ h.
+    below a 0xE1 (λ k. found_at le0 tt a (omega arith)) λ h.
+    below a 0xED (λ k. let i : Octet 0xE1 0xEC a = omega arith in found i (le1_ec i) tt) λ h.
+    below a 0xEE (λ k. found_at led tt a (omega arith)) λ h.
+    below a 0xF0 (λ k. let i : Octet 0xEE 0xEF a = omega arith in found i (lee_ef i) tt) λ h.
+    below a 0xF1 (λ k. found_at lf0 tt a (omega arith)) λ h.
+    below a 0xF4 (λ k. let i : Octet 0xF1 0xF3 a = omega arith in found i (lf1_f3 i) tt) λ h.
+    below a 0xF5 (λ k. found_at lf4 tt a (omega arith)) λ h.
     absurd (no_lead_past_f4 a h t)
 
 rest : (s : List ℕ) (n p : ℕ) → lacking n p s ≡ true → Rest n p s

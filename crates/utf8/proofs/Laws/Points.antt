@@ -6,9 +6,9 @@ use Rattle.std.proofs.Common.{◌∙◌, arith, ap, lit≤, T, sub-one, eqb→eq
 use Rattle.base.specs.Choice.{pick}
 use Rattle.base.specs.Laws.{clash}
 use Rattle.utf8.specs.Utf8.{within, class_of, is_utf8}
-use Rattle.utf8.specs.Rfc3629.{Octet, x00_7f, x_c2_df, x_e0, x_e1_ec, x_ed, x_ee_ef, x_f0, x_f1_f3, x_f4, Utf8Char, one, two, three, four, Utf8Octets, none, char}
+use Rattle.utf8.specs.Rfc3629.{Octet, x00_7f, xc2_df, xe0, xe1_ec, xed, xee_ef, xf0, xf1_f3, xf4, Utf8Char, one, two, three, four, Utf8Octets, none, char}
 use Rattle.utf8.specs.Points.{chars_in, points_after, points, points_of}
-use Rattle.utf8.proofs.Laws.Chars.{T-both, passes, in_range, in_within, octet}
+use Rattle.utf8.proofs.Laws.Chars.{t_both, passes, in_range, in_within, octet}
 use Rattle.utf8.proofs.Laws.Sound.{sound}
 
 -- how many bytes lie outside 80..BF
@@ -35,7 +35,7 @@ not_true false t = refl
 
 shaped : (n : ℕ) {from to a : ℕ} {t : List ℕ} → Octet from to a → T (passes (leads n) from (to - from)) → Tails n t → n ≤ 3 → Shape (a ∷ t)
 shaped n {a = a} i u t h =
-    let v = T-both (eqb (class_of a) (suc n)) (not (within 0x80 0xBF a)) (in_range (leads n) i u) in
+    let v = t_both (eqb (class_of a) (suc n)) (not (within 0x80 0xBF a)) (in_range (leads n) i u) in
     shape (eqb→eq (class_of a) (suc n) v.0) (not_true (within 0x80 0xBF a) v.1) t h
 
 -- a byte of one of the grammar's ranges behind the first
@@ -45,15 +45,15 @@ tail {b = b} i l h = let u : Octet 0x80 0xBF b = omega arith in in_within u
 char_shape : {c : List ℕ} → Utf8Char c → Shape c
 unfolding class_of
 char_shape (one (x00_7f i)) = shaped 0 i tt last (lit≤ tt)
-char_shape (two (x_c2_df i p)) = shaped 1 i tt (next (in_within p) last) (lit≤ tt)
-char_shape (three (x_e0 p q)) = shaped 2 (octet 0xE0) tt (next (tail p (lit≤ tt) (lit≤ tt)) (next (in_within q) last)) (lit≤ tt)
-char_shape (three (x_e1_ec i p q)) = shaped 2 i tt (next (in_within p) (next (in_within q) last)) (lit≤ tt)
-char_shape (three (x_ed p q)) = shaped 2 (octet 0xED) tt (next (tail p (lit≤ tt) (lit≤ tt)) (next (in_within q) last)) (lit≤ tt)
-char_shape (three (x_ee_ef i p q)) = shaped 2 i tt (next (in_within p) (next (in_within q) last)) (lit≤ tt)
-char_shape (four (x_f0 p q r)) =
+char_shape (two (xc2_df i p)) = shaped 1 i tt (next (in_within p) last) (lit≤ tt)
+char_shape (three (xe0 p q)) = shaped 2 (octet 0xE0) tt (next (tail p (lit≤ tt) (lit≤ tt)) (next (in_within q) last)) (lit≤ tt)
+char_shape (three (xe1_ec i p q)) = shaped 2 i tt (next (in_within p) (next (in_within q) last)) (lit≤ tt)
+char_shape (three (xed p q)) = shaped 2 (octet 0xED) tt (next (tail p (lit≤ tt) (lit≤ tt)) (next (in_within q) last)) (lit≤ tt)
+char_shape (three (xee_ef i p q)) = shaped 2 i tt (next (in_within p) (next (in_within q) last)) (lit≤ tt)
+char_shape (four (xf0 p q r)) =
     shaped 3 (octet 0xF0) tt (next (tail p (lit≤ tt) (lit≤ tt)) (next (in_within q) (next (in_within r) last))) (lit≤ tt)
-char_shape (four (x_f1_f3 i p q r)) = shaped 3 i tt (next (in_within p) (next (in_within q) (next (in_within r) last))) (lit≤ tt)
-char_shape (four (x_f4 p q r)) =
+char_shape (four (xf1_f3 i p q r)) = shaped 3 i tt (next (in_within p) (next (in_within q) (next (in_within r) last))) (lit≤ tt)
+char_shape (four (xf4 p q r)) =
     shaped 3 (octet 0xF4) tt (next (tail p (lit≤ tt) (lit≤ tt)) (next (in_within q) (next (in_within r) last))) (lit≤ tt)
 
 -- ---- one character at the front is one code point

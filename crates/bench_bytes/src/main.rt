@@ -42,9 +42,7 @@ fn open(how: Asked, request: Request, image: &[u8]) -> u8 {
 
 fn run(rt: HostRuntime, request: Request) -> u8 {
     let how = bench_refuse::how(rt, request);
-    let Ok(mut image) = bench_file::image_space(rt.alloc()) else {
-        return bench_refuse::part(how, bench_file::UNREADABLE, b"", &[]);
-    };
+    let mut image = bench_file::image_space();
     let loaded = bench_file::load(&rt, request.file, request.sample, request.link, &mut image);
     if loaded.number != 0 {
         return bench_refuse::part(how, loaded.number, b"", &[]);

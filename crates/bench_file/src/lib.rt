@@ -1,19 +1,18 @@
 // The dump: a file or standard input, read whole; and files that hold a dump in a form of their own.
 #![tactic(auto)]
 
-ghost use Rattle.std.specs.Prelude.{◌≡◌, ◌≤◌, length, vec_len, IfOk};
+ghost use Rattle.std.specs.Prelude.{◌≡◌, ◌≤◌, length};
 
-use std::alloc::{AllocError, Global};
 use std::fs::File;
 use std::io::{Error, ErrorKind, Input, Read};
 use std::rt::{Env, Files};
 use std::str;
 
-// Room for a dump, 2 MiB: on the heap, since the stack need not have as much.
-pub fn image_space(alloc: Global) -> Result<Vec<u8>, AllocError>
-    ensures { IfOk result (λ image. 2097152 ≡ vec_len image) }
+// Room for a dump, 2 MiB. The contract gives the length alone, so that no caller's proof computes the list.
+pub fn image_space() -> [u8; 2097152]
+    ensures { 2097152 ≡ length result }
 {
-    vec![in alloc; 0; 2097152]
+    [0; 2097152]
 }
 
 // 0 and how many bytes there are; or 108 to 111: why it can't be opened or read, 112: it is too large, or the number of its form.

@@ -99,8 +99,8 @@ fn run_all(rt: &impl Print, input: &mut impl Read, roms: &mut [u32]) -> io::Resu
     Ok(())
 }
 
-// Rows of 255 times 255 ROMs, and a tail, are lent to every board.
+// Every board is lent the same rows.
 fn main(rt: HostRuntime) -> io::Result<()> {
-    let mut roms = vec![in rt.alloc(); 0; 65536 * rows::ROM_WORDS]?;
+    let mut roms = words::rom_space();
     run_all(&rt, &mut rt.reader(), &mut roms)
 }

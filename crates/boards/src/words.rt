@@ -1,5 +1,6 @@
 // Buffers of words and bytes: filled, summed, compared.
-ghost use Rattle.std.specs.Prelude.{◌≡◌, length};
+ghost use Rattle.std.specs.Prelude.{◌≡◌, ◌*◌, length};
+ghost use Rattle.rows.specs.LentRows.{rom_row_length};
 
 // Each contract gives the length alone, so that no caller's proof computes the list.
 pub(crate) fn input_space() -> [u8; 69632]
@@ -13,6 +14,13 @@ pub(crate) fn set_space() -> [u32; 4096]
     ensures { 4096 ≡ length result }
 {
     [0; 4096]
+}
+
+// Rows of 255 times 255 ROMs, and a tail.
+pub(crate) fn rom_space() -> [u32; 65536 * rows::ROM_WORDS]
+    ensures { 65536 * rom_row_length ≡ length result }
+{
+    [0; 65536 * rows::ROM_WORDS]
 }
 
 // What a read of several bytes may fill.

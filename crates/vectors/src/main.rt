@@ -6,10 +6,32 @@ mod lines;
 mod mangling;
 mod show;
 
-ghost use Rattle.std.specs.Prelude.{◌<◌};
+ghost use Rattle.std.specs.Prelude.{◌≡◌, ◌<◌, ◌≤◌, length, IfOk};
 
 use std::io;
 use std::io::Read;
+
+// The contract gives the length alone, so that no caller's proof computes the list.
+fn input_space() -> [u8; 2097152]
+    ensures { 2097152 ≡ length result }
+{
+    [0; 2097152]
+}
+
+// Reads until the space is full or the input ends.
+fn read_full(input: &mut impl Read, space: &mut [u8]) -> io::Result<usize>
+    ensures { IfOk result (λ n. n ≤ length space.new) }
+{
+    let mut done = 0;
+    while done < space.len() {
+        let more = input.read(&mut space[done..])?;
+        if more == 0 {
+            break;
+        }
+        done += more;
+    }
+    Ok(done)
+}
 
 fn run_runtime(rt: &impl Print, record: &[u8], ram_base: u32) -> io::Result<()> {
     let mut words = [0u32; 25];
@@ -143,7 +165,7 @@ fn run_all(rt: &impl Print, input: &[u8]) -> io::Result<()> {
 }
 
 fn main(rt: HostRuntime) -> io::Result<()> {
-    let mut input = Vec::new(rt.alloc());
-    rt.reader().read_to_end(&mut input)?;
-    run_all(&rt, &input)
+    let mut input = input_space();
+    let n = read_full(&mut rt.reader(), &mut input)?;
+    run_all(&rt, &input[..n])
 }

@@ -1,12 +1,15 @@
--- Document 02, wish 4, beside document 01: a job's replies and its count are those of the reads on one count, which know of no job.
+-- Document 02, wish 4, beside document 01: a job's replies and its count are those of the reads on one count, which know of no job; and what these
+-- count over a history.
 -- Assumes nothing.
-use Rattle.std.specs.Prelude.{ℕ, ◌<◌, ◌≡◌, refl, true, List, length}
-use Rattle.std.proofs.Common.{ap, ◌∙◌, eqb-true}
-use Rattle.machine.specs.Machine.{state_after, replies, replies_of, calls_of}
+use Rattle.std.specs.Prelude.{ℕ, ◌+◌, ◌≤◌, ◌<◌, ◌≡◌, refl, true, List, length}
+use Rattle.std.proofs.Common.{arith, sym, ap, ◌∙◌, eqb-true, add-zero}
+use Rattle.machine.specs.Machine.{state_after, replies, replies_of, gained, calls_of}
 use Rattle.machine.proofs.Laws.Follow.{Follows, follow_replies, follow_after}
-use Rattle.info.specs.Reads.{Reply}
+use Rattle.machine.proofs.Laws.Along.{along}
+use Rattle.info.specs.Reads.{Reply, accepted_length}
+use Rattle.info.proofs.Laws.Count.{count_step, count_fits}
 use Rattle.job_counts.specs.Counts.{count_of}
-use Rattle.jobs.specs.Histories.{JobCall, read_reply_of, one_reply_of, job_reply, jobs_by, on_one_count, of_job}
+use Rattle.jobs.specs.Histories.{JobCall, JobReply, read_reply_of, one_reply_of, job_reply, jobs_by, on_one_count, of_job}
 use Rattle.jobs.proofs.Laws.Steps.{job_read_is}
 use Rattle.jobs.proofs.Laws.OneCall.{other_left}
 use Rattle.jobs.proofs.Laws.History.{eight_stay, left_own}
@@ -38,3 +41,20 @@ module _ {C : Type 0} (call : C → JobCall) where
     pub count_as_one : (counts : List ℕ) → length counts ≡ 8 → (h : List C)
         → count_of j (state_after (jobs_by call) counts h) ≡ state_after (on_one_count call) (count_of j counts) (calls_of (of_job call j) h)
     count_as_one counts e h = (follow_after job_follows counts (count_of j counts) h (record { eight = e; its = refl })).its
+
+  -- ---- document 01, "ROM data": over any history of reads on one count
+
+  abbrev accepted : C → JobReply → ℕ
+  accepted c t = accepted_length t.number (call c).read
+
+  -- the count grows by the lengths of the reads that were accepted
+  pub one_count_sums : (count : ℕ) (h : List C) → state_after (on_one_count call) count h ≡ count + gained (on_one_count call) accepted count h
+  one_count_sums count h =
+      along (on_one_count call) accepted (λ s. Unit {0}) (λ c s k. k) (λ s n t. t ≡ s + n) (λ s. sym (add-zero s)) (λ s t u a b p q. omega arith)
+      (λ c s k. count_step (call c).flash_base (call c).cs0_base (call c).lent (call c).image s (call c).read) count h tt
+
+  -- and stays within 32 bits
+  pub one_count_fits : (count : ℕ) → count ≤ 4294967295 → (h : List C) → state_after (on_one_count call) count h ≤ 4294967295
+  one_count_fits count fits h =
+      along (on_one_count call) accepted (λ s. Unit {0}) (λ c s k. k) (λ s n t. s ≤ 4294967295 → t ≤ 4294967295) (λ s k. k) (λ s t u a b p q k. q (p k))
+      (λ c s k. count_fits (call c).flash_base (call c).cs0_base (call c).lent (call c).image s (call c).read) count h tt fits

@@ -30,12 +30,11 @@ cp "$PROGRAM" "$out/$name"
 # Says its words, one in brackets each, and what it finds on standard input; ends with the status that FAKE_STATUS asks for. With FAKE_OTHER, bench
 # leaves all of that to the other program.
 PROGRAM = """#!/usr/bin/env bash
-[ -z "${FAKE_OTHER-}" ] || [ "${0##*/}" != bench ] || exit 3
+[ -z "${FAKE_OTHER-}" ] || [ "${0##*/}" != bench ] || { printf 3 >&3; exit; }
 printf '[%s]' "$@" 2>/dev/null || failed=1
 [ -z "${FAKE_READS-}" ] || cat
 [ -z "${FAKE_WAITS-}" ] || sleep "$FAKE_WAITS"
-[ "${FAKE_STATUS-0}" != killed ] || kill -KILL $$
-exit "${failed-${FAKE_STATUS-0}}"
+printf '%s' "${failed-${FAKE_STATUS-0}}" >&3
 """
 
 
@@ -218,7 +217,7 @@ def passes_on(c):
     same(c.run("-", data=data, FAKE_READS="1"), (0, b"[-]" + data, [], 0), "bytes go in and out as they are")
     c.write("crates/bench/src/main.rt", "to be proved with a dump on standard input")
     same(c.run("-", data=data, FAKE_READS="1")[1], b"[-]" + data, "rt takes nothing of them")
-    for said, code in (("0", 0), ("1", 1), ("2", 2), ("4", 1), ("255", 1), ("killed", 1)):
+    for said, code in (("0", 0), ("1", 1), ("2", 2), ("", 1), ("4", 1), ("00", 1)):
         same(c.run("x", FAKE_STATUS=said), (code, b"[x]", [], 0), "status %r" % said)
     same(c.run("x", shell='"$0" "$@" >&-'), (1, b"", [], 0), "a closed output")
     same(c.run("x", shell='"$0" "$@" >/dev/full')[::3], (1, 0), "a full disk")
@@ -242,7 +241,7 @@ def other_program(c):
     c.write("crates/bench_bytes/src/main.rt", "bytes again")
     same(c.run("x"), (0, b"[x]", [], 0), "a report needs no bytes")
     same(c.run("-", data=b"dump", FAKE_OTHER="1", FAKE_READS="1"), (0, b"[-]dump", [second], 1), "the input is the other program's")
-    for said, code in (("1", 1), ("2", 2), ("killed", 1), ("3", 1)):
+    for said, code in (("1", 1), ("2", 2), ("", 1), ("3", 1)):
         same(c.run("x", FAKE_OTHER="1", FAKE_STATUS=said), (code, b"[x]", [], 0), "the other program's status %r" % said)
     c.write("crates/bench_bytes/src/main.rt", "bad")
     same(c.run("x", FAKE_OTHER="1")[:2], (1, b""), "a failed check of the other program")

@@ -7,7 +7,6 @@ mod help;
 use bench_args::Request;
 use bench_out::Stream;
 use bench_refuse::Asked;
-use std::process::ExitCode;
 
 fn open(how: Asked, request: Request, image: &[u8]) -> u8 {
     let mut set_rows = bench_rows::set_space();
@@ -63,7 +62,8 @@ fn done(rt: HostRuntime, request: Request) -> u8 {
     run(rt, request)
 }
 
-fn main(rt: HostRuntime) -> ExitCode {
+fn main(rt: HostRuntime) {
     let request = bench_args::parse(&rt);
-    bench_refuse::tell(request, done(rt, request))
+    let status = done(rt, request);
+    bench_refuse::tell(rt, request, status);
 }

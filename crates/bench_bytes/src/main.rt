@@ -5,7 +5,6 @@
 use bench_args::Request;
 use bench_refuse::Asked;
 use board::Board;
-use std::process::ExitCode;
 
 fn bytes(
     how: Asked,
@@ -61,7 +60,8 @@ fn done(rt: HostRuntime, request: Request) -> u8 {
     run(rt, request)
 }
 
-fn main(rt: HostRuntime) -> ExitCode {
+fn main(rt: HostRuntime) {
     let request = bench_args::parse(&rt);
-    bench_refuse::tell(request, done(rt, request))
+    let status = done(rt, request);
+    bench_refuse::tell(rt, request, status);
 }

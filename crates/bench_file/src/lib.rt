@@ -23,7 +23,7 @@ pub struct Loaded {
 }
 
 // The number of a dump that cannot be read, for no reason that has a number of its own.
-pub const UNREADABLE: u8 = 111;
+const UNREADABLE: u8 = 111;
 
 // The system's number for a file whose mode keeps the reader out. ErrorKind::PermissionDenied is wider.
 const EACCES: i32 = 13;

@@ -1,4 +1,4 @@
-// What the bench says, on standard output or standard error: gathered, and written in few calls. Every write's result is looked at, and after one that
+// What the bench says, on standard output, standard error or for its status: gathered, and written in few calls. Every write's result is looked at, and after one that
 // failed nothing more is written, so that an output has no hole.
 #![tactic(auto)]
 
@@ -11,10 +11,12 @@ pub use escape::{character, file_name, shown};
 use std::fmt;
 use std::fmt::Write;
 
+// Status is descriptor 3.
 #[derive(Clone, Copy)]
 pub enum Stream {
     Output,
     Error,
+    Status,
 }
 
 const ROOM: usize = 16384;

@@ -55,12 +55,25 @@ fn many<W: Write>(to: &mut W, bytes: &[u8]) -> Written
     }
 }
 
+fn many_on_file(to: Result<File>, bytes: &[u8]) -> Written
+    ensures { result.count ≤ length bytes.now }
+{
+    match to {
+        Ok(mut file) => many(&mut file, bytes),
+        Err(_) => Written {
+            count: 0,
+            is_early: false,
+        },
+    }
+}
+
 fn many_on(rt: HostRuntime, stream: Stream, bytes: &[u8]) -> Written
     ensures { result.count ≤ length bytes.now }
 {
     match stream {
         Stream::Output => many(&mut rt.stdout(), bytes),
         Stream::Error => many(&mut rt.stderr(), bytes),
+        Stream::Status => many_on_file(that_waits(rt, stream), bytes),
     }
 }
 
@@ -69,16 +82,14 @@ fn that_waits(rt: HostRuntime, stream: Stream) -> Result<File> {
     let path = match stream {
         Stream::Output => "/proc/self/fd/1",
         Stream::Error => "/proc/self/fd/2",
+        Stream::Status => "/proc/self/fd/3",
     };
     File::options().append(true).open(&rt, path)
 }
 
 // Writes what a pipe that does not wait refused just now.
 fn patiently(rt: HostRuntime, stream: Stream, bytes: &[u8]) -> bool {
-    match that_waits(rt, stream) {
-        Ok(mut again) => many(&mut again, bytes).count == bytes.len(),
-        Err(_) => false,
-    }
+    many_on_file(that_waits(rt, stream), bytes).count == bytes.len()
 }
 
 // Whether all of the bytes were written.

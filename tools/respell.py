@@ -33,7 +33,10 @@ OTHER = {
     "T-not-true": "t_not_true",
 } | {law: law.replace("-", "_") + "_is" for law in """job-read read-reply items-of all-high word-number any-after lacks-rows rest-on
     before-nul rom-row-length set-row-length not-looked-for counts-left some-counted sets-number metadata-ended data-read sets-after short-sets
-    short-roms""".split()}
+    short-roms data-after one-after rows-from""".split()}
+# Laws that an older script has turned already, while the definition beside them was still in mixed case.
+TURNED = {"word_number": "wordNumber"}
+
 
 
 def snake(name):
@@ -100,7 +103,10 @@ def antt(text, new):
     lines = []
     for line in text.split("\n"):
         code = bare(line)
-        lines.append(in_code(code, new) + in_comment(line[len(code) :], new))
+        for law, definition in TURNED.items():
+            if definition in new:
+                code = re.sub(r"(?<![.\w])%s\b" % law, law + "_is", code)
+        lines.append(in_code(code, new) + in_comment(line[len(bare(line)) :], new))
     return "\n".join(lines)
 
 

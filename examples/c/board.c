@@ -1,8 +1,8 @@
 /* Opens a dump of a board's flash, lists its sets, says which are the same, and reads the first bytes of each: as they are stored, and as its socket
  * sees them with every line low. Each of the two is a job, with a count of its own.
  *
- *     (cd crates/onerom && rt lib)
- *     cc -Iinclude examples/c/board.c crates/onerom/out/libonerom.a -o board && ./board DUMP */
+ *     (cd crates/onerom_c && rt lib && cp out/libonerom_c.a out/libonerom.a)
+ *     cc -Iinclude examples/c/board.c crates/onerom_c/out/libonerom.a -o board && ./board DUMP */
 #include <errno.h>
 #include <inttypes.h>
 #include <stdio.h>

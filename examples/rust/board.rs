@@ -1,8 +1,8 @@
 //! Opens a dump of a board's flash, lists its sets, says which are the same, and reads the first bytes of each: as they are stored, and as its socket
 //! sees them with every line low. Each of the two is a job, with a count of its own.
 //!
-//!     (cd crates/onerom && rt lib)
-//!     rustc --edition 2024 examples/rust/board.rs -L crates/onerom/out -l static=onerom -o board && ./board DUMP
+//!     (cd crates/onerom_c && rt lib && cp out/libonerom_c.a out/libonerom.a)
+//!     rustc --edition 2024 examples/rust/board.rs -L crates/onerom_c/out -l static=onerom -o board && ./board DUMP
 
 mod onerom;
 

@@ -197,7 +197,7 @@ def line(kind, *parts):
 
 
 def string_answer(image, base, pointer):
-    """By the call behind C's. The width is also the number of bytes that begin a character, and no character has more than four."""
+    """By the call for C and Rust. The width is also the number of bytes that begin a character, and no character has more than four."""
     number, offset, length, width = records.string_call(image, base, pointer)
     assert width == sum(not 0x80 <= b <= 0xBF for b in image[offset : offset + length]) and width <= length <= 4 * width
     return [number, offset, length, width]

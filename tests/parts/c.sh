@@ -2,19 +2,19 @@
 
 test_c_library() {
     tests/library >target/library.log 2>&1 || { tail -n 5 target/library.log; return 1; }
-    [ -f crates/onerom/out/libonerom.a ]
+    [ -f crates/onerom_c/out/libonerom.a ]
 }
 
 # The library keeps nothing: it has code and constants, no memory of its own, and calls nobody else.
 test_c_library_has_no_state() {
     needs nm
-    nm crates/onerom/out/libonerom.a >target/symbols && grep -q ' T onerom_open$' target/symbols &&
+    nm crates/onerom_c/out/libonerom.a >target/symbols && grep -q ' T onerom_open$' target/symbols &&
         ! awk 'NF > 1 && $(NF - 1) !~ /^[TtRr]$/' target/symbols | grep .
 }
 
 # c_test NAME [ARGUMENT]: tests/c/NAME.c says ok
 c_test() {
-    cc -std=c99 -Wall -Wextra -Werror -pedantic -Iinclude -o "target/c-$1" "tests/c/$1.c" crates/onerom/out/libonerom.a &&
+    cc -std=c99 -Wall -Wextra -Werror -pedantic -Iinclude -o "target/c-$1" "tests/c/$1.c" crates/onerom_c/out/libonerom.a &&
         "target/c-$1" ${2:+"$2"} >"target/c-$1.out" && grep -qx ok "target/c-$1.out" || { cat "target/c-$1.out"; return 1; }
 }
 
@@ -35,14 +35,14 @@ test_c_counts() {
 # Histories of several jobs: another reader's answers.
 test_c_jobs() {
     needs python3
-    cc -std=c99 -Wall -Wextra -Werror -pedantic -Iinclude -o target/c-jobs tests/c/jobs.c crates/onerom/out/libonerom.a &&
+    cc -std=c99 -Wall -Wextra -Werror -pedantic -Iinclude -o target/c-jobs tests/c/jobs.c crates/onerom_c/out/libonerom.a &&
         python3 -B tests/c/jobs.py target/c-jobs
 }
 
 # The first ROM row of every set, on boards of up to 255 sets: another reader's answers.
 test_c_rows() {
     needs python3
-    cc -std=c99 -Wall -Wextra -Werror -pedantic -Iinclude -o target/c-rows tests/c/rows.c crates/onerom/out/libonerom.a &&
+    cc -std=c99 -Wall -Wextra -Werror -pedantic -Iinclude -o target/c-rows tests/c/rows.c crates/onerom_c/out/libonerom.a &&
         python3 -B tests/c/rows.py target/c-rows
 }
 
@@ -57,19 +57,19 @@ test_c_numbers() {
 }
 
 test_c_header_in_cpp() {
-    c++ -std=c++11 -Wall -Wextra -Werror -pedantic -Wno-address -Iinclude -o target/c-cpp tests/c/header.cpp crates/onerom/out/libonerom.a && target/c-cpp
+    c++ -std=c++11 -Wall -Wextra -Werror -pedantic -Wno-address -Iinclude -o target/c-cpp tests/c/header.cpp crates/onerom_c/out/libonerom.a && target/c-cpp
 }
 
 # The examples, on a sample board: C's and Rust's say the same.
 test_c_example() {
-    cc -std=c99 -Wall -Wextra -Werror -Iinclude -o target/example-c examples/c/board.c crates/onerom/out/libonerom.a &&
+    cc -std=c99 -Wall -Wextra -Werror -Iinclude -o target/example-c examples/c/board.c crates/onerom_c/out/libonerom.a &&
         target/example-c samples/rp2350.img >target/example-c.out &&
         cmp target/example-c.out tests/data/example.txt
 }
 
 test_rust_example() {
     needs rustc
-    rustc --edition 2024 -D warnings -O -o target/example-rust examples/rust/board.rs -L crates/onerom/out -l static=onerom &&
+    rustc --edition 2024 -D warnings -O -o target/example-rust examples/rust/board.rs -L crates/onerom_c/out -l static=onerom &&
         target/example-rust samples/rp2350.img >target/example-rust.out &&
         cmp target/example-rust.out tests/data/example.txt
 }
@@ -97,14 +97,14 @@ test_c_example_full_disk() {
 test_rust_fields() {
     needs rustc
     c_test fields target/fields.img &&
-        rustc --edition 2024 -D warnings -o target/rust-fields tests/rust/fields.rs -L crates/onerom/out -l static=onerom &&
+        rustc --edition 2024 -D warnings -o target/rust-fields tests/rust/fields.rs -L crates/onerom_c/out -l static=onerom &&
         [ "$(target/rust-fields target/fields.img)" = ok ]
 }
 
 # The wrapper's reads, on the sample boards.
 test_rust_calls() {
     needs rustc
-    rustc --edition 2024 -D warnings -O -o target/rust-calls tests/rust/calls.rs -L crates/onerom/out -l static=onerom && [ "$(target/rust-calls)" = ok ]
+    rustc --edition 2024 -D warnings -O -o target/rust-calls tests/rust/calls.rs -L crates/onerom_c/out -l static=onerom && [ "$(target/rust-calls)" = ok ]
 }
 
 # The sample boards are what their generator makes.

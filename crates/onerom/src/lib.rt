@@ -1,4 +1,4 @@
-// The entry points for C and Rust: include/onerom.h declares them.
+// The entry points for C and Rust, as a library: onerom_c exports them, include/onerom.h declares them.
 #![tactic(auto)]
 
 pub mod opening;
@@ -11,16 +11,14 @@ ghost use Rattle.text.specs.Text.{string_call, part_after};
 ghost use Rattle.c_board.specs.Value.{value_after};
 ghost use Rattle.c_mangle.specs.Board.{mangle_call, demangle_call};
 
-#[unsafe(no_mangle)]
-pub extern "C" fn onerom_runtime(record: &[u8], ram_base: u32, words: &mut [u32; 25]) -> u32
+pub fn onerom_runtime(record: &[u8], ram_base: u32, words: &mut [u32; 25]) -> u32
     ensures reply { result ≡ number_of (runtime_of «record».now ram_base) }
     ensures words { words.new ≡ words_after (runtime_of «record».now ram_base) words.old }
 {
     c_runtime::runtime_call(record, ram_base, words)
 }
 
-#[unsafe(no_mangle)]
-pub extern "C" fn onerom_string(
+pub fn onerom_string(
     image: &[u8],
     base: u32,
     pointer: u32,
@@ -32,8 +30,7 @@ pub extern "C" fn onerom_string(
     c_string::string_call(image, base, pointer, part)
 }
 
-#[unsafe(no_mangle)]
-pub extern "C" fn onerom_mangle(
+pub fn onerom_mangle(
     pins_number: u8,
     rom_pins: u8,
     addr: &[u8; 16],
@@ -62,8 +59,7 @@ pub extern "C" fn onerom_mangle(
     )
 }
 
-#[unsafe(no_mangle)]
-pub extern "C" fn onerom_demangle(pins_number: u8, data: &[u8; 8], byte: u8, value: &mut u8) -> u32
+pub fn onerom_demangle(pins_number: u8, data: &[u8; 8], byte: u8, value: &mut u8) -> u32
     ensures reply { result ≡ (demangle_call pins_number «data».now byte).number }
     ensures value { value.new ≡ value_after result (demangle_call pins_number «data».now byte).value value.old }
 {

@@ -5,8 +5,7 @@ ghost use Rattle.c_open.specs.Opening.{open_call, opening_out};
 
 use c_open::OneromOpening;
 
-#[unsafe(no_mangle)]
-pub extern "C" fn onerom_open(
+pub fn onerom_open(
     image: &[u8],
     flash_base: u32,
     cs0_base: u32,

@@ -10,21 +10,14 @@ ghost use Rattle.c_job_reads.specs.Reads.{data_call, byte_call, own_call};
 
 use c_report::OneromReport;
 
-#[unsafe(no_mangle)]
-pub extern "C" fn onerom_get_rom_set_size(
-    served: u32,
-    set_rows: &[u32],
-    set: u32,
-    value: &mut u32,
-) -> u32
+pub fn onerom_get_rom_set_size(served: u32, set_rows: &[u32], set: u32, value: &mut u32) -> u32
     ensures reply { result ≡ (size_call served set_rows.now set).number }
     ensures value { value.new ≡ value_after result (size_call served set_rows.now set).value value.old }
 {
     c_sets::size_call(served, set_rows, set, value)
 }
 
-#[unsafe(no_mangle)]
-pub extern "C" fn onerom_same_set(
+pub fn onerom_same_set(
     served: u32,
     set_rows: &[u32],
     rom_rows: &[u32],
@@ -38,8 +31,7 @@ pub extern "C" fn onerom_same_set(
     c_sets::same_call(served, set_rows, rom_rows, a, b, value)
 }
 
-#[unsafe(no_mangle)]
-pub extern "C" fn onerom_read_rom_set_data(
+pub fn onerom_read_rom_set_data(
     image: &[u8],
     flash_base: u32,
     cs0_base: u32,
@@ -60,8 +52,7 @@ pub extern "C" fn onerom_read_rom_set_data(
     )
 }
 
-#[unsafe(no_mangle)]
-pub extern "C" fn onerom_read_rom_byte_raw(
+pub fn onerom_read_rom_byte_raw(
     image: &[u8],
     flash_base: u32,
     cs0_base: u32,
@@ -86,8 +77,7 @@ pub extern "C" fn onerom_read_rom_byte_raw(
     )
 }
 
-#[unsafe(no_mangle)]
-pub extern "C" fn onerom_read_rom_byte_demangled(
+pub fn onerom_read_rom_byte_demangled(
     image: &[u8],
     flash_base: u32,
     cs0_base: u32,
@@ -112,8 +102,7 @@ pub extern "C" fn onerom_read_rom_byte_demangled(
     )
 }
 
-#[unsafe(no_mangle)]
-pub extern "C" fn onerom_read_rom_byte_own(
+pub fn onerom_read_rom_byte_own(
     image: &[u8],
     flash_base: u32,
     cs0_base: u32,

@@ -9,8 +9,9 @@ use runtime_info::{
     GroupV060, GroupV062, GroupV063, GroupV067, RuntimeVersionedFields, SdrrRuntimeInfo,
     SdrrRuntimeInfoHeader,
 };
-use std::io;
+use std::fmt::Write;
 use std::io::Read;
+use std::{fmt, io, str};
 
 const RAM_BASE: u32 = 536870912;
 
@@ -95,7 +96,29 @@ fn print_record(rt: &impl Print, bytes: &[u8]) -> io::Result<()> {
     }
 }
 
-// An error's words without the number that the system gives it.
+const ROOM: usize = 160;
+
+// An error's words: the room's first bytes, so many. Words that it has no room for are left out.
+#[derive(Drop)]
+struct Words {
+    count: usize,
+    room: [u8; ROOM],
+    ghost within: { count ≤ 160 },
+}
+
+impl fmt::Write for Words {
+    fn write_str(&mut self, s: &str) -> fmt::Result {
+        for b in s.as_bytes() {
+            if self.count < ROOM {
+                self.room[self.count] = *b;
+                self.count += 1;
+            }
+        }
+        Ok(())
+    }
+}
+
+// The words without the number that the system gives the error.
 fn reason(text: &str) -> &str {
     match text.split_once(" (os error ") {
         Some((words, _)) => words,
@@ -104,13 +127,18 @@ fn reason(text: &str) -> &str {
 }
 
 // Says on standard error what failed, and why.
-fn fail(rt: &(impl Eprint + Alloc), what: &str, e: io::Error) -> io::Result<()> {
-    let text = format!(in rt.alloc(); "{e}")?;
-    eprintln!(rt; "runtime: {what}: {}", reason(text.as_str()))
+fn fail(rt: &impl Eprint, what: &str, e: io::Error) -> io::Result<()> {
+    let mut words = Words {
+        count: 0,
+        room: [0; ROOM],
+    };
+    let _ = write!(words, "{e}");
+    let text = str::from_utf8(&words.room[..words.count]).unwrap_or("");
+    eprintln!(rt; "runtime: {what}: {}", reason(text))
 }
 
 // One read. Where it fails, standard error says why.
-fn read_some(rt: &(impl Eprint + Alloc), input: &mut impl Read, space: &mut [u8]) -> usize
+fn read_some(rt: &impl Eprint, input: &mut impl Read, space: &mut [u8]) -> usize
     ensures { result ≤ length space.new }
 {
     match input.read(space) {
@@ -123,7 +151,7 @@ fn read_some(rt: &(impl Eprint + Alloc), input: &mut impl Read, space: &mut [u8]
 }
 
 // Reads until the space is full, the input ends or a read fails; what came before that counts.
-fn read_record(rt: &(impl Eprint + Alloc), input: &mut impl Read, space: &mut [u8]) -> usize
+fn read_record(rt: &impl Eprint, input: &mut impl Read, space: &mut [u8]) -> usize
     ensures { result ≤ length space.new }
 {
     let mut done = 0;

@@ -1,4 +1,4 @@
-// The starred cases of document 01, run by the calls that C's entry points are a line over. Each function's statement is its row of specs/Table.antt.
+// The starred cases of document 01, run by the calls for C and Rust. Each function's statement is its row of specs/Table.antt.
 // What a call is lent holds 9 throughout, so that it shows what was written and what was left.
 #![tactic(auto)]
 
@@ -36,7 +36,7 @@ fn record_answer(record: &[u8]) -> RuntimeAnswer
     ensures { (result.number ∷ result.words) ≡ of_record «record».now }
 {
     let mut words = [9u32; 25];
-    let number = c_runtime::runtime_call(record, 536870912, &mut words);
+    let number = onerom::onerom_runtime(record, 536870912, &mut words);
     RuntimeAnswer { number, words }
 }
 
@@ -76,7 +76,7 @@ fn string_answer(image: &[u8]) -> StringAnswer
     ensures { (result.number ∷ result.part) ≡ of_string image.now }
 {
     let mut part = [9u32; text::PART_WORDS];
-    let number = c_string::string_call(image, 134217728, 134217728, &mut part);
+    let number = onerom::onerom_string(image, 134217728, 134217728, &mut part);
     StringAnswer { number, part }
 }
 
@@ -109,7 +109,7 @@ fn byte_answer(data: &[u8; 8]) -> ByteAnswer
     ensures { (result.number ∷ result.value ∷ []) ≡ of_byte «data».now }
 {
     let mut value = 9u8;
-    let number = c_mangle::demangle_call(0, data, 1, &mut value);
+    let number = onerom::onerom_demangle(0, data, 1, &mut value);
     ByteAnswer { number, value }
 }
 
@@ -136,7 +136,7 @@ fn address_answer(addr: &[u8; 16], cs1: u8, address: u32) -> AddressAnswer
     let rom_row = [2u32, 0, 0, 0, 0, 0, 0, 0];
     let levels = [1u8, 0, 0, 0, 0];
     let mut value = 9u32;
-    let number = c_mangle::mangle_call(
+    let number = onerom::onerom_mangle(
         0, 24, addr, &control, 1, &set_row, &rom_row, address, &levels, &mut value,
     );
     AddressAnswer { number, value }

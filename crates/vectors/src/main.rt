@@ -35,7 +35,7 @@ fn read_full(input: &mut impl Read, space: &mut [u8]) -> io::Result<usize>
 
 fn run_runtime(rt: &impl Print, record: &[u8], ram_base: u32) -> io::Result<()> {
     let mut words = [0u32; 25];
-    let number = c_runtime::runtime_call(record, ram_base, &mut words);
+    let number = onerom::onerom_runtime(record, ram_base, &mut words);
     show::first(rt, number)?;
     if number == 0 {
         show::words(rt, &words)?;
@@ -65,7 +65,7 @@ fn run_extra_info(rt: &impl Print, line: &[u8], image: &[u8]) -> io::Result<()> 
 // A string by the call for C and Rust.
 fn run_string(rt: &impl Print, image: &[u8], base: u32, pointer: u32) -> io::Result<()> {
     let mut part = [0u32; text::PART_WORDS];
-    let number = c_string::string_call(image, base, pointer, &mut part);
+    let number = onerom::onerom_string(image, base, pointer, &mut part);
     show::four(rt, number, part[0], part[1], part[2])
 }
 

@@ -4,7 +4,7 @@ use std::io;
 
 pub(crate) fn run_demangle(rt: &impl Print, line: &[u8], pins: &[u8; 8]) -> io::Result<()> {
     let mut value: u8 = 0;
-    let number = c_mangle::demangle_call(
+    let number = onerom::onerom_demangle(
         lines::byte_of(line, 0),
         pins,
         lines::byte_of(line, 1),
@@ -44,7 +44,7 @@ fn mangle_one(
     levels: u32,
 ) -> io::Result<()> {
     let mut value: u32 = 0;
-    let number = c_mangle::mangle_call(
+    let number = onerom::onerom_mangle(
         lines::byte_of(line, 0),
         p[0],
         &address_pins(p),

@@ -1,4 +1,4 @@
-//! Links libonerom.a from the folder that ONEROM_LIB names; by default crates/onerom/out, where `rt lib` puts it. For the benchmark it also
+//! Links libonerom.a from the folder that ONEROM_LIB names; by default crates/onerom_c/out, where tests/library puts it. For the benchmark it also
 //! compiles the loop in C.
 
 use std::process::Command;
@@ -22,7 +22,7 @@ fn main() {
     if std::env::var("ONEROM_BENCH").is_ok() {
         bytes(&here);
     }
-    let lib = std::env::var("ONEROM_LIB").unwrap_or(format!("{here}/../../../crates/onerom/out"));
+    let lib = std::env::var("ONEROM_LIB").unwrap_or(format!("{here}/../../../crates/onerom_c/out"));
     println!("cargo:rustc-link-search=native={lib}");
     println!("cargo:rustc-link-lib=static=onerom");
     println!("cargo:rerun-if-changed={lib}/libonerom.a");

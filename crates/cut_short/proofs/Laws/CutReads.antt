@@ -1,6 +1,6 @@
 -- ROM reads on an image cut short: what its board accepts, the whole image's accepts alike.
 -- Assumes nothing.
-use Rattle.std.specs.Prelude.{ℕ, ◌+◌, ◌*◌, ◌≡◌, refl, ◌⊎◌, List, ◌++◌, map, length, take, drop}
+use Rattle.std.specs.Prelude.{ℕ, ◌*◌, ◌≡◌, refl, ◌⊎◌, List, ◌++◌, map, length, take, drop}
 use Rattle.std.proofs.Common.{arith, sym, ap, ◌∙◌, inl, inr, ⊎_elim, length-append}
 use Rattle.std.proofs.lemmas.List.{length-map}
 use Rattle.prog.specs.Prog.{run}

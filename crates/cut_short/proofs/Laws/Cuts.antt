@@ -8,7 +8,6 @@ use Rattle.prog.proofs.Laws.Cut.{Cut, OrEnded}
 use Rattle.prog.proofs.Laws.Parts.{cut_done, cut_aside, cut_mono, cut_map, cut_also}
 use Rattle.prog.proofs.Laws.Honest.{Honest, cut_honest, honest_kept, honest_done, honest_pick, honest_map, cut_after, cut_beside}
 use Rattle.text.specs.declared.Text.{Text}
-use Rattle.text.specs.Text as T
 use Rattle.text.proofs.Laws.Chunks.{text_honest}
 use Rattle.header.specs.declared.SdrrInfoHeader.{SdrrInfoHeader}
 use Rattle.version.specs.Version.{from050}

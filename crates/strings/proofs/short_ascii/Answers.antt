@@ -11,5 +11,5 @@ slice_bounds-ascii_front-end c =
 pub returns : goal.returns
 returns c = record {
   from = λ h. omega arith;
-  told = λ h. short_told _ _ _ (omega arith) (sym c.if-not-can_read.ensures) _ c.ascii_front-n.ensures h c.if-image-offset-ne0.false;
+  told = λ h. short_told _ _ _ (omega arith) (sym c.if-not-can_read.ensures) _ c.ascii_front-n.ensures h (omega arith);
 }

@@ -1,7 +1,7 @@
 -- The code points of a list of bytes (document 02, wish 3). On UTF8-octets they are counted as RFC 3629's grammar has it, whichever derivation is
 -- taken; they are the bytes outside 80..BF; and there are at most as many as bytes, and at least a quarter as many.
 -- Assumes nothing.
-use Rattle.std.specs.Prelude.{ℕ, suc, ◌+◌, ◌-◌, ◌*◌, ◌≤◌, ◌≡◌, refl, List, [], ◌∷◌, ◌++◌, Bool, true, false, not, ◌&&◌, Some, None, length, eqb}
+use Rattle.std.specs.Prelude.{ℕ, suc, ◌-◌, ◌*◌, ◌≤◌, ◌≡◌, refl, List, [], ◌∷◌, ◌++◌, Bool, true, false, not, ◌&&◌, Some, None, length, eqb}
 use Rattle.std.proofs.Common.{◌∙◌, arith, ap, lit≤, T, sub-one, eqb→eq, length-append}
 use Rattle.base.specs.Choice.{pick}
 use Rattle.base.specs.Laws.{clash}

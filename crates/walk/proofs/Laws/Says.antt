@@ -1,6 +1,6 @@
 -- What the walk's programs answer is what the passes compute: where the number is 0, what the part holds; otherwise a refusal with that number.
 -- Assumes nothing.
-use Rattle.std.specs.Prelude.{ℕ, zero, suc, ◌+◌, ◌-◌, ◌≤◌, ◌<◌, ◌≡◌, refl, Bool, true, false, ◌||◌, List, [], ◌∷◌, ◌++◌, ltb, eqb, take}
+use Rattle.std.specs.Prelude.{ℕ, zero, suc, ◌+◌, ◌≤◌, ◌<◌, ◌≡◌, refl, Bool, true, false, ◌||◌, List, [], ◌∷◌, ◌++◌, ltb, eqb, take}
 use Rattle.std.proofs.Common.{arith, sym, append_assoc, append-nil, lit≤, get_or-take, ne_eqb, eqb-true}
 use Rattle.base.specs.Laws.{cases}
 use Rattle.base.specs.Choice.{pick}

@@ -4,7 +4,7 @@
 use Prim.Native.Nat.{ℕ, zero, suc, ◌+◌, ◌-◌, ◌*◌, ◌≤◌}
 use native.Mathlib.Omega.{arith}
 use Rattle.std.proofs.Math.Nat.{zero-add, add-zero}
-use Rattle.std.proofs.Common.{suc-add, add_assoc, add-one, sym, ap}
+use Rattle.std.proofs.Common.{suc-add, add_assoc, add-one, sym, ap, ◌∙◌}
 use Rattle.std.specs.Prelude.{◌≡◌, Bool}
 use Rattle.std.proofs.Math.Path.{refl}
 use mathlib.Core.List.{List, [], ◌∷◌, ◌++◌}
@@ -13,7 +13,7 @@ use Rattle.window.specs.Window.{on_from}
 use Rattle.le.specs.Le.{u8_at, u32_at}
 use Rattle.set_header.specs.Laws.{stride_bound}
 use Rattle.walk.specs.Walk.{RomSet, roms_of}
-use Rattle.walk.specs.Rows.{counts_of}
+use Rattle.walk.specs.Rows.{set_row, counts_of, set_rows_after, set_rows_of}
 use Rattle.walk.specs.Code.Passes.{stride_of, part_roms, set_of, set_at, after, set_address, sets_at}
 use Rattle.walk.proofs.Laws.Passes.{roms_length, roms_in}
 
@@ -23,6 +23,25 @@ pub counts_append : (ss ts : List RomSet) → counts_of (ss ++ ts) ≡ counts_of
 unfolding counts_of
 counts_append [] ts = sym (zero-add (counts_of ts))
 counts_append (s ∷ ss) ts = rw (counts_append ss ts) (sym (add_assoc s.rom_count (counts_of ss) (counts_of ts)))
+
+pub counts_more : (ss : List RomSet) (s : RomSet) → counts_of (ss ++ (s ∷ [])) ≡ counts_of ss + s.rom_count
+unfolding counts_of
+counts_more ss s = rw (counts_append ss (s ∷ []), add-zero s.rom_count)
+
+-- the set rows with the total carried along are the definition's
+unfoldable pub rows_from : ℕ → List RomSet → List ℕ
+rows_from first [] = []
+rows_from first (s ∷ ss) = set_row first s ++ rows_from (first + s.rom_count) ss
+
+pub rows_after : (earlier ss : List RomSet) → set_rows_after earlier ss ≡ rows_from (counts_of earlier) ss
+unfolding set_rows_after rows_from
+rows_after earlier [] = refl
+rows_after earlier (s ∷ ss) =
+    ap (λ (l : List ℕ). set_row (counts_of earlier) s ++ l) (rows_after (earlier ++ (s ∷ [])) ss ∙ ap (λ (n : ℕ). rows_from n ss) (counts_more earlier s))
+
+pub rows_from_is : (ss : List RomSet) → set_rows_of ss ≡ rows_from 0 ss
+unfolding counts_of
+rows_from_is ss = rows_after [] ss
 
 -- ---- where the passes stand
 

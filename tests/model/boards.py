@@ -64,7 +64,7 @@ new = place(848, [
 
 def main():
     text = open(os.path.join(TOP, "crates/fw_parser/specs/Examples.antt")).read()
-    for name, image in (("oldImage", old), ("newImage", new)):
+    for name, image in (("old_image", old), ("new_image", new)):
         held = re.search(name + r" =\s+([0-9∷\s]+)\[\]", text).group(1)
         assert bytes(int(n) for n in re.findall("[0-9]+", held)) == image, name
     print("both images are as made here")

@@ -1,6 +1,6 @@
 /* The proved One ROM board reader: what C and Rust call.
  *
- * Link with libonerom.a (README.md: `rt lib` in crates/onerom_c makes it).
+ * Link with libonerom.a (README.md says how it is made, in crates/onerom_c).
  * Every call answers a number, onerom_open in a struct: 0 accepted, otherwise the refusal's number of document 01.
  * A refused call changes no byte and no word of what it is lent.
  *

@@ -1,5 +1,5 @@
 #!/usr/bin/env python3
-"""Brings the names of definitions, laws and variables to snake case: `rom_read`, `reads_kept` -> `rom_read`, `reads_kept`. Types, modules, names
+"""Brings the names of definitions, laws and variables to snake case: `romRead`, `reads-kept` -> `rom_read`, `reads_kept`. Types, modules, names
 of std and names that Rattle makes (`loop-i-preserved`) stay.
 
 usage: python3 tools/respell.py [FOLDER]      in FOLDER, or here: rewrites crates/ and the texts that speak of its names, and says what it did
@@ -36,7 +36,6 @@ OTHER = {
     short-roms data-after one-after rows-from""".split()}
 # Laws that an older script has turned already, while the definition beside them was still in mixed case.
 TURNED = {"word_number": "wordNumber"}
-
 
 
 def snake(name):
@@ -162,7 +161,8 @@ def main(argv):
             print(f"together: {path}: {name} of {' '.join(olds)}")
         return 0
     changed = 0
-    for path in list(files(os.path.join(root, "crates"), (".antt", ".rt", ".edit"))) + [p for p in files(root, TEXTS) if not p.startswith(os.path.join(root, "crates"))]:
+    texts = [p for p in files(root, TEXTS) if os.path.relpath(p, root).split(os.sep)[0] not in ("crates", "tools")]
+    for path in [*files(os.path.join(root, "crates"), (".antt", ".rt", ".edit")), *texts]:
         before = text_of(path)
         after = turned(path, before, new)
         if after != before:

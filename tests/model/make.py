@@ -7,7 +7,7 @@
 A line of stdin: a letter for the kind, then numbers of eight hexadecimal digits, then bytes in hexadecimal. stdout has its answer, decimal.
     r RAM-base record        the runtime record: number, and the words of include/onerom.h where it is accepted
     s base pointer image     a string: number, offset, length, width
-    S base pointer image     a string by the call behind C's
+    S base pointer image     a string by the call for C and Rust
     h base offset image      the header
     e base pointer major minor patch build image    extra info
     m base pointer image     metadata

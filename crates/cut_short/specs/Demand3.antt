@@ -1,5 +1,5 @@
 -- Demand 3: whatever image opens and wherever it is cut short, with the same settings and the same rows, enough for the whole.
--- `demand3` in Laws/Proof proves it for every image, setting, lent rows and cut.
+-- `demand3` in proofs/Laws/Proof proves it for every image, setting, lent rows and cut.
 use Rattle.std.specs.Prelude.{ℕ, ◌≤◌, ◌<◌, ◌≡◌, List, length, take}
 use Rattle.prog.specs.Prog.{reach}
 use Rattle.info.specs.Reads.{RomRead}

@@ -1,5 +1,5 @@
 -- Document 02, wish 4: "Whatever the other jobs read, a job gets the replies and count that its calls, in their order, would have had by
--- themselves." `isolated` in Laws/History proves it for every history, from any eight counts, zeros among them.
+-- themselves." `isolated` in proofs/Laws/History proves it for every history, from any eight counts, zeros among them.
 use Rattle.std.specs.Prelude.{ℕ, ◌+◌, ◌≡◌, List}
 use Rattle.machine.specs.Machine.{state_after, replies, replies_of, gained, calls_of}
 use Rattle.job_counts.specs.Counts.{count_of, no_job_number}

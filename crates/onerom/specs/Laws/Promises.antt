@@ -38,7 +38,7 @@ use Rattle.c_open.specs.Opening.{open_call, opening_out}
 use Rattle.c_job_reads.specs.Reads.{data_call, byte_call, own_call}
 use Rattle.own_reads.specs.Laws.Set0.{parted_number, set_0_new, set_0_old, set_0_parted}
 
--- ---- the reads as they are called: each is the read of a job, by the report and rows as lent (`call_is_read` in Laws/History)
+-- ---- the reads as they are called: each is the read of a job, by the report and rows as lent (`call_is_read` in proofs/Laws/History)
 
 -- ROM data is given no ROM rows; with any its answer is the same
 pub data_is_read : (f c : ℕ) (report : OneromReport) (sets roms : List ℕ) (set offset n job : ℕ) (counts x : List ℕ)

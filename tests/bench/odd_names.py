@@ -93,6 +93,10 @@ def on_the_command_line(at):
         code, out, err = call(at, name)
         same((code, out.split(b"\n")[0].decode(), err), (0, "made/%s: a One ROM board, 13944 bytes" % shown, b""), "a file called %r" % name)
         same(call(at, name, "raw", "9")[2], ("bench: made/%s, set 9: refused with 80:\n  %s\n" % (shown, table[80])).encode(), "set 9 of %r" % name)
+    # The file that is opened is the one that is named, also where a word before it is text beyond ASCII.
+    shutil.copy(os.path.join(TOP, "samples", "mixed.img"), os.path.join(at, "made", "\u00e9.img"))
+    code, out, err = call(at, "--sample", "made/\u00e9.img", b"made/a\xff")
+    same((code, out.split(b"\n")[0], err), (0, rb"made/a\xff: a One ROM board, 13944 bytes", b""), "a file behind a word beyond ASCII")
     for word, shown in ((b"--\xe2\x80\xae", r"--\u202e"), (b"--\xff", r"--\xff")):
         same(call(at, word), (2, b"", ("bench: %s: %s\n" % (shown, table[101])).encode()), "the option %r" % word)
 

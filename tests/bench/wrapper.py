@@ -231,6 +231,16 @@ def passes_on(c):
     process.communicate(timeout=60)
 
 
+def in_an_odd_folder(c):
+    """A checkout in a folder whose name is no UTF-8: the sample is given by a link with a name that is."""
+    odd = c.top + "\udcff"
+    os.rename(c.top, odd)
+    surroundings = dict(os.environ, PATH=c.path(), RUNS=c.runs, PROGRAM=c.program)
+    done = subprocess.run(["bash", os.path.join(odd, "bench"), "raw", "0"], cwd=c.at, env=surroundings, stdin=subprocess.DEVNULL, capture_output=True, timeout=60)
+    os.rename(odd, c.top)
+    expect(re.fullmatch(rb"\[--status\]\[--sample\]\[/[\x21-\x5a\x5e-\x7e ]*/sample\]\[raw\]\[0\]", done.stdout), "in an odd folder: %r" % done.stdout)
+
+
 def other_program(c):
     """What bench leaves to bench_bytes: proved when it is first asked for, with the caller's words and input, and its own status."""
     c.write("crates/low/src/lib.rt", "for both")
@@ -260,5 +270,5 @@ def two_at_once(c):
 
 def wrapper(at):
     c = Checkout(os.path.join(at, "wrapper"))
-    for part in (proves_once, sees_changes, failed_check, no_kit, read_only, called_from_anywhere, passes_on, other_program, two_at_once):
+    for part in (proves_once, sees_changes, failed_check, no_kit, read_only, called_from_anywhere, in_an_odd_folder, passes_on, other_program, two_at_once):
         part(c)

@@ -1,5 +1,5 @@
-// What the bench says, on standard output, standard error or for its status: gathered, and written in few calls. Every write's result is looked at, and after one that
-// failed nothing more is written, so that an output has no hole.
+// What the bench says, on standard output or standard error, and its status: gathered, and written in few calls. Every write's result is looked at,
+// and after one that failed nothing more is written, so that an output has no hole.
 #![tactic(auto)]
 
 mod write;

@@ -1,4 +1,4 @@
-// The opening, for C and Rust.
+// The opening, exported.
 ghost use Rattle.std.specs.Prelude.{◌≡◌};
 ghost use Rattle.fw_parser.specs.Opening.{set_rows_left, rom_rows_left};
 ghost use Rattle.c_open.specs.Opening.{open_call, opening_out};

@@ -1,4 +1,4 @@
-// ROM data, the byte reads, size and same set, for C and Rust.
+// ROM data, the byte reads, size and same set, exported.
 ghost use Rattle.std.specs.Prelude.{◌≡◌, true, false, length};
 ghost use Rattle.set_data.specs.Data.{size_call};
 ghost use Rattle.same_set.specs.Same.{same_set};

@@ -5,7 +5,7 @@ import re
 import sys
 
 ROOT = os.path.join(os.path.dirname(os.path.abspath(__file__)), "..", "..")
-KIT = set()
+KIT = {"arrayvec"}
 
 
 def text(name):

@@ -10,25 +10,25 @@ CRATES = os.path.join(ROOT, "crates")
 
 # Document 01's sections in its order, and the files that define what each says, with what document 02 adds to it.
 READING = [
-    ("what every definition is written with", ["base/Choice", "le/Le", "runs/Runs", "magic/Magic", "prog/Prog"]),
+    ("what every definition is written with", ["base/Choice", "refusal/Refusal", "le/Le", "runs/Runs", "magic/Magic", "prog/Prog"]),
     ("Window", ["window/Window"]),
     ("String; RFC 3629", ["utf8/Utf8", "utf8/Rfc3629", "utf8/Points", "text/Text"]),
-    ("Info header", ["types/Types", "type_numbers/TypeNumbers", "version/Version", "header/Header"]),
+    ("Info header", ["types/Types", "types/Known", "types/Texts", "type_numbers/TypeNumbers", "version/Version", "header/Header"]),
     ("Extra info", ["extra_info/ExtraInfo"]),
     ("Metadata", ["metadata/Metadata", "sets_source/Looked"]),
     ("ROM sets and ROM infos", ["set_header/SetHeader", "walk/Walk", "walk/Names", "walk/Rows", "rows/LentRows", "rom_rows/Reply"]),
     ("Report", ["sets_item/Sets", "fw_parser/Opening", "fw_parser/Reply", "sdrr_info/Report"]),
     ("Pins", ["pins/Pins"]),
-    ("Mangling", ["least_pin/LeastPin", "base_zero/BaseZero", "rom_rules/Rules", "input_word/Input", "demangle/Bits", "mangle/PinMap", "mangle/Mangle", "demangle/Demangle"]),
+    ("Mangling", ["least_pin/LeastPin", "base_zero/BaseZero", "rom_rules/Rules", "input_word/Input", "demangle/Bits", "mangle/PinMap", "mangle/Others", "mangle/Mangle", "pin_map/Item", "demangle/Demangle"]),
     ("Lent rows, ROM data, same set", ["board/Board", "set_data/Data", "governing/Governing", "info/Lent", "info/Reads", "same_set/Same", "data_reads/Calls", "byte_reads/Calls"]),
     ("a count for each job (document 02, wish 4)", ["job_counts/Counts", "jobs/Jobs", "job_reads/Reads", "machine/Machine", "jobs/Histories", "jobs/Isolated", "opened_board/Histories"]),
     ("Runtime", ["runtime_info/Runtime", "runtime_info/Words"]),
     ("demand 3", ["cut_short/Shown", "opened_board/ReadAfter", "cut_short/Demand3"]),
     ("the calls of C and Rust", ["c_board/Board", "c_board/Value", "c_report/Report", "c_handed/Handed", "c_open/Opening", "c_job_reads/Reads", "c_mangle/Board"]),
 ]
-# Files at the top of specs/ that no buyer needs: the root, and a program's table.
-NOT_READ = {"Lib", "Laws", "Code", "Examples"}
-NO_DEFINITIONS = {"starred"}
+# Files at the top of specs/ that no buyer needs: the root, a program's table, and the numbers that are the bench's own.
+NOT_READ = {"Lib", "Laws", "Code", "Examples", "Refused"}
+NO_DEFINITIONS = {"starred", "bench_args", "bench_file"}
 # Words in backquotes that name nothing of the sources.
 WORDS = {"ensures", "requires", "read", "write", "stdout", "l"}
 

@@ -1,7 +1,7 @@
 // Base-zero: the pins of a record, counted from the least of them (info.rs `base_zero`).
 #![tactic(auto)]
 
-ghost use Rattle.std.specs.Prelude.{◌≡◌, map, ◌-◌};
+ghost use Rattle.std.specs.Prelude.{◌≡◌, map};
 ghost use Rattle.base.specs.Choice.{pick};
 ghost use Rattle.least_pin.specs.LeastPin.{has24};
 ghost use Rattle.base_zero.specs.BaseZero.{lowered, lowered_by, base_zero};
@@ -9,28 +9,21 @@ ghost use Rattle.base_zero.specs.BaseZero.{lowered, lowered_by, base_zero};
 use board::BoardPins;
 use least_pin::least_pin;
 
-// p less m, and 0 where m is the greater.
-fn less(p: u8, m: u8) -> u8
-    ensures { result ≡ p - m }
-{
-    if p < m { 0 } else { p - m }
-}
-
 #[tactic(auto, unfolding(crate::specs::BaseZero::lowered))]
 pub fn lower(m: u8, p: u8) -> u8
     ensures { result ≡ lowered m p }
 {
-    if p == 255 { p } else { less(p, m) }
+    if p == 255 { p } else { p.saturating_sub(m) }
 }
 
+// Not by an array's `map`, whose contract speaks of the closure's calls one by one: the list as a whole does not follow from it here.
+#[tactic(auto, using(crate::proofs::Steps::map_on, crate::proofs::Steps::map_end))]
 fn lower_all(m: u8, ps: [u8; 16]) -> [u8; 16]
     ensures { result ≡ map (lowered m) ps }
 {
     let mut to = ps;
-    let mut i: usize = 0;
-    while i < 16 {
-        to[i] = lower(m, ps[i]);
-        i += 1;
+    for p in to.iter_mut() {
+        *p = lower(m, *p);
     }
     to
 }
@@ -47,18 +40,17 @@ pub fn control_least(m: u8, pins: BoardPins) -> u8
 fn lowered_by(m: u8, k: u8, pins: BoardPins) -> BoardPins
     ensures { result ≡ lowered_by m k pins }
 {
-    let a = pins.addr;
-    let addr = lower_all(m, a);
-    let mut p = pins;
-    p.addr = addr;
-    p.cs1 = lower(k, pins.cs1);
-    p.cs2 = lower(k, pins.cs2);
-    p.cs3 = lower(k, pins.cs3);
-    p.x1 = lower(k, pins.x1);
-    p.x2 = lower(k, pins.x2);
-    p.ce = lower(k, pins.ce);
-    p.oe = lower(k, pins.oe);
-    p
+    BoardPins {
+        addr: lower_all(m, pins.addr),
+        cs1: lower(k, pins.cs1),
+        cs2: lower(k, pins.cs2),
+        cs3: lower(k, pins.cs3),
+        x1: lower(k, pins.x1),
+        x2: lower(k, pins.x2),
+        ce: lower(k, pins.ce),
+        oe: lower(k, pins.oe),
+        ..pins
+    }
 }
 
 #[tactic(auto, unfolding(crate::specs::BaseZero::base_zero))]

@@ -1,10 +1,5 @@
 // The help, on one screen; and the version.
-use bench_out::Out;
-
-pub(crate) fn help(out: &mut Out) {
-    bench_out::text(
-        out,
-        b"bench: says what the flash of a One ROM board holds\n\n  \
+pub(crate) const HELP: &str = "bench: says what the flash of a One ROM board holds\n\n  \
         bench [FILE]                           firmware, pins, sets, ROMs, same sets\n  \
         bench FILE read SET [LEVELS]           a set's bytes as its socket has them\n  \
         bench FILE raw SET                     a set's bytes as they are stored\n  \
@@ -23,11 +18,7 @@ pub(crate) fn help(out: &mut Out) {
         --by-set-0        read and byte go by set 0's ROM count and type, not SET's\n\n\
         Sets are the same where size, ROM count, serving and types agree; the report\n\
         says if names and bytes do. Messages: standard error. Exit status: 0 an answer;\n\
-        1 none, or not whole; 2 words not understood.\n",
-    );
-}
+        1 none, or not whole; 2 words not understood.\n";
 
 // The version of include/onerom.h.
-pub(crate) fn version(out: &mut Out) {
-    bench_out::text(out, b"bench 3.0\n");
-}
+pub(crate) const VERSION: &str = "bench 3.0\n";

@@ -1,34 +1,46 @@
 // LEVELS: which of CS1, CS2, CS3, X1, X2 are high, as in cs1=1,x1=0.
-use crate::words;
 
-// All bits: these are no levels.
-pub(crate) const REFUSED: u16 = 65535;
-
-// A further level, whose bit is its place in the table; each line is named once. What is refused stays refused.
-fn with_piece(levels: u16, piece: &[u8]) -> u16 {
-    let k = words::place(
-        piece,
-        b"cs1=0|cs1=1|cs2=0|cs2=1|cs3=0|cs3=1|x1=0|x1=1|x2=0|x2=1",
-    );
-    if 9 < k {
-        return REFUSED;
-    }
-    let line: u16 = 3 << (k / 2 * 2);
-    if levels & line != 0 {
-        return REFUSED;
-    }
-    let bit: u16 = 1 << k;
-    levels | bit
+/// The levels that are given; a line that is not named has none, and is low.
+#[derive(Clone, Copy, Debug, Default, PartialEq, Eq)]
+pub struct Levels {
+    pub cs1: Option<bool>,
+    pub cs2: Option<bool>,
+    pub cs3: Option<bool>,
+    pub x1: Option<bool>,
+    pub x2: Option<bool>,
 }
 
-// The lines that are not named are low; the word low names none.
-pub(crate) fn parse(word: &[u8]) -> u16 {
-    if words::place(word, b"low") == 0 {
-        return 0;
+impl Levels {
+    // Gives one line's level. Each line is named once.
+    fn give(&mut self, piece: &[u8]) -> Option<()> {
+        let (name, level) = match piece {
+            [name @ .., b'=', b'0'] => (name, false),
+            [name @ .., b'=', b'1'] => (name, true),
+            _ => return None,
+        };
+        let line = match name {
+            b"cs1" => &mut self.cs1,
+            b"cs2" => &mut self.cs2,
+            b"cs3" => &mut self.cs3,
+            b"x1" => &mut self.x1,
+            b"x2" => &mut self.x2,
+            _ => return None,
+        };
+        match line.replace(level) {
+            None => Some(()),
+            Some(_) => None,
+        }
     }
-    let mut levels = 0;
-    for piece in word.split(|b| *b == b',') {
-        levels = with_piece(levels, piece);
+
+    // The word low names no line.
+    pub(crate) fn parse(word: &[u8]) -> Option<Levels> {
+        let mut levels = Levels::default();
+        if word == b"low".as_slice() {
+            return Some(levels);
+        }
+        for piece in word.split(|b| *b == b',') {
+            levels.give(piece)?;
+        }
+        Some(levels)
     }
-    levels
 }

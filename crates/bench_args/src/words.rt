@@ -1,76 +1,116 @@
-// A word of the command line: which of several it is, and a number in one.
-ghost use Rattle.std.specs.Prelude.{◌≤◌, length};
+// The words that are no options: [FILE], or FILE COMMAND SET [ADDRESS] [LEVELS].
+use crate::Command;
+use crate::levels::Levels;
+use crate::reason::{Reason, Refused};
+use std::str;
 
-// Above every number.
-const NO_NUMBER: u64 = 4294967296;
-
-// Where the first mark stands: the word's length where there is none.
-pub fn mark_at(word: &[u8], mark: u8) -> usize
-    ensures { result ≤ length word.now }
-{
-    word.iter().position(|b| *b == mark).unwrap_or(word.len())
+// A number: decimal, or hexadecimal after 0x or 0X. A sign, which the library's call would take, belongs to none.
+pub(crate) fn number(at: usize, word: &[u8]) -> Result<u32, Refused> {
+    let (digits, radix) = match word {
+        [b'0', b'x' | b'X', digits @ ..] => (digits, 16),
+        _ => (word, 10),
+    };
+    match str::from_utf8(digits) {
+        Ok(text) if !text.starts_with('+') => u32::from_str_radix(text, radix).ok(),
+        _ => None,
+    }
+    .ok_or(Refused::about(at, Reason::NotANumber))
 }
 
-// Which entry of a table the word is: 0 for the first; 255 where it is none. Entries stand between bars.
-pub fn place(word: &[u8], table: &[u8]) -> u8 {
-    for (k, entry) in (0..255).zip(table.split(|b| *b == b'|')) {
-        let is_long = word.len() == entry.len();
-        if base::both(is_long, magic::starts_with(word, entry)) {
-            return k;
+fn levels(at: usize, word: &[u8]) -> Result<Levels, Refused> {
+    Levels::parse(word).ok_or(Refused::about(at, Reason::NotLevels))
+}
+
+// What the words so far are. A command is kept with the argument that it is.
+#[derive(Clone, Copy, Debug, PartialEq, Eq)]
+pub(crate) enum Words {
+    Nothing,
+    File,
+    Read(usize),
+    ReadSet { set: u32 },
+    Raw(usize),
+    Byte(usize),
+    ByteSet { at: usize, set: u32 },
+    ByteAddress { set: u32, address: u32 },
+    // nothing may follow it
+    Whole(Command),
+}
+
+impl Words {
+    pub(crate) fn command(at: usize, word: &[u8]) -> Option<Words> {
+        match word {
+            b"read" => Some(Words::Read(at)),
+            b"raw" => Some(Words::Raw(at)),
+            b"byte" => Some(Words::Byte(at)),
+            b"help" => Some(Words::Whole(Command::Help)),
+            _ => None,
         }
     }
-    255
-}
 
-// 255 for what is no digit.
-fn digit(c: u8) -> u8 {
-    if c < 48 {
-        return 255;
-    }
-    if c < 58 {
-        return c - 48;
-    }
-    let letter = c | 32;
-    if letter < 97 {
-        return 255;
-    }
-    letter - 87
-}
-
-// One digit more.
-fn grown(value: u64, base: u8, d: u8) -> u64
-    requires { value ≤ 4294967295 }
-{
-    if base == 16 {
-        return value * 16 + d as u64;
-    }
-    value * 10 + d as u64
-}
-
-fn digits(word: &[u8], base: u8) -> u64 {
-    if word.len() == 0 {
-        return NO_NUMBER;
-    }
-    let mut value: u64 = 0;
-    for c in word {
-        let d = digit(*c);
-        if base <= d {
-            return NO_NUMBER;
-        }
-        value = grown(value, base, d);
-        if 4294967295 < value {
-            return NO_NUMBER;
+    // With a word more. FILE, which may be any word, is not looked for.
+    pub(crate) fn with(self, at: usize, word: &[u8]) -> Result<Words, Refused> {
+        match self {
+            Words::Nothing | Words::File => {
+                Words::command(at, word).ok_or(Refused::about(at, Reason::NoSuchCommand))
+            }
+            Words::Read(_) => Ok(Words::ReadSet {
+                set: number(at, word)?,
+            }),
+            Words::ReadSet { set } => Ok(Words::Whole(Command::Read {
+                set,
+                levels: levels(at, word)?,
+            })),
+            Words::Raw(_) => Ok(Words::Whole(Command::Raw {
+                set: number(at, word)?,
+            })),
+            Words::Byte(command) => Ok(Words::ByteSet {
+                at: command,
+                set: number(at, word)?,
+            }),
+            Words::ByteSet { set, .. } => Ok(Words::ByteAddress {
+                set,
+                address: number(at, word)?,
+            }),
+            Words::ByteAddress { set, address } => Ok(Words::Whole(Command::Byte {
+                set,
+                address,
+                levels: levels(at, word)?,
+            })),
+            Words::Whole(_) => Err(Refused::about(at, Reason::TooMany)),
         }
     }
-    value
-}
 
-// Decimal, or hexadecimal after 0x or 0X; above 4294967295 where the word is no number.
-pub fn to_number(word: &[u8]) -> u64 {
-    if 2 < word.len() {
-        if base::both(word[0] == b'0', word[1] | 32 == b'x') {
-            return digits(&word[2..], 16);
+    // Whether bytes are asked for.
+    pub(crate) fn is_bytes(self) -> bool {
+        matches!(
+            self,
+            Words::Read(_)
+                | Words::ReadSet { .. }
+                | Words::Raw(_)
+                | Words::Whole(Command::Read { .. } | Command::Raw { .. })
+        )
+    }
+
+    // Whether no command has come.
+    pub(crate) fn is_report(self) -> bool {
+        matches!(self, Words::Nothing | Words::File)
+    }
+
+    // What they ask for; no word that has to follow may be missing.
+    pub(crate) fn end(self) -> Result<Command, Refused> {
+        let levels = Levels::default();
+        match self {
+            Words::Nothing | Words::File => Ok(Command::Report),
+            Words::Read(at) | Words::Raw(at) | Words::Byte(at) | Words::ByteSet { at, .. } => {
+                Err(Refused::about(at, Reason::NoSet))
+            }
+            Words::ReadSet { set } => Ok(Command::Read { set, levels }),
+            Words::ByteAddress { set, address } => Ok(Command::Byte {
+                set,
+                address,
+                levels,
+            }),
+            Words::Whole(command) => Ok(command),
         }
     }
-    digits(word, 10)
 }

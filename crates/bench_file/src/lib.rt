@@ -1,144 +1,138 @@
 // The dump: a file or standard input, read whole; and files that hold a dump in a form of their own.
 #![tactic(auto)]
 
-ghost use Rattle.std.specs.Prelude.{◌≡◌, ◌≤◌, length};
+ghost use Rattle.std.specs.Prelude.{◌≡◌, ◌≤◌, length, IfOk};
+ghost use Rattle.bench_file.specs.Unread.{number_of, form_of};
 
+use bench_args::FileArguments;
 use std::fs::File;
-use std::io::{Error, ErrorKind, Input, Read};
+use std::io::{ErrorKind, Input, Read};
 use std::rt::{Env, Files};
-use std::str;
+use std::{io, str};
 
-// Room for a dump, 2 MiB. The contract gives the length alone, so that no caller's proof computes the list.
+// Room for a dump, 2 MiB: fixed, as there is no heap. The contract gives the length alone, so that no caller's proof computes the list.
 pub fn image_space() -> [u8; 2097152]
     ensures { 2097152 ≡ length result }
 {
     [0; 2097152]
 }
 
-// 0 and how many bytes there are; or 108 to 111: why it can't be opened or read, 112: it is too large, or the number of its form.
-#[derive(Clone, Copy)]
-pub struct Loaded {
-    pub number: u8,
-    pub length: usize,
+/// Why there is no dump. The discriminant is the number, which a script is shown.
+#[derive(Clone, Copy, Debug, PartialEq, Eq)]
+pub enum Unread {
+    /// There is no such file.
+    NotFound = 108,
+    /// It is a directory.
+    Directory = 109,
+    /// Its mode keeps the reader out.
+    Forbidden = 110,
+    /// It cannot be read, for no reason that has a number of its own.
+    Unreadable = 111,
+    /// It is larger than the room for it.
+    TooLarge = 112,
+    /// A UF2 file, which holds a dump in parts.
+    Uf2 = 117,
+    /// An ELF file, which does so too.
+    Elf = 118,
 }
 
-// The number of a dump that cannot be read, for no reason that has a number of its own.
-const UNREADABLE: u8 = 111;
+impl Unread {
+    /// The number.
+    pub fn number(self) -> u8
+        ensures { result ≡ number_of self }
+    {
+        self as u8
+    }
+}
+
+// What a UF2 file begins with.
+const UF2: [u8; 4] = *b"UF2\n";
+
+// What an ELF file begins with.
+const ELF: [u8; 4] = *b"\x7fELF";
 
 // The system's number for a file whose mode keeps the reader out. ErrorKind::PermissionDenied is wider.
 const EACCES: i32 = 13;
 
-// Why a call failed.
-fn why(error: Error) -> u8 {
-    if error.raw_os_error() == Some(EACCES) {
-        return 110;
-    }
-    match error.kind() {
-        ErrorKind::NotFound => 108,
-        ErrorKind::IsADirectory => 109,
-        _ => UNREADABLE,
-    }
-}
-
-fn failed(error: Error) -> Loaded
-    ensures { result.length ≡ 0 }
-{
-    Loaded {
-        number: why(error),
-        length: 0,
-    }
-}
-
-// 117 for a UF2 file, 118 for an ELF file, which both hold a dump in parts; the number that is given for any other.
-pub fn form_number(image: &[u8], other: u8) -> u8 {
-    if magic::starts_with(image, b"UF2\n") {
-        return 117;
-    }
-    if magic::starts_with(image, b"\x7fELF") {
-        return 118;
-    }
-    other
-}
-
-// What follows what was read: 0 at the end of the file.
-fn after<R: Read>(from: &mut R, image: &[u8]) -> u8 {
-    let mut one = [0; 1];
-    match from.read(&mut one) {
-        Ok(0) => 0,
-        Ok(_) => form_number(image, 112),
-        Err(error) => why(error),
-    }
-}
-
-fn read_all<R: Read>(from: &mut R, image: &mut [u8]) -> Loaded
-    ensures { result.length ≤ length image.new }
-{
-    let mut length = 0;
-    while length < image.len() {
-        match from.read(&mut image[length..]) {
-            Ok(0) => return Loaded { number: 0, length },
-            Ok(n) => length += n,
-            Err(error) => return failed(error),
+impl From<io::Error> for Unread {
+    fn from(error: io::Error) -> Unread {
+        if error.raw_os_error() == Some(EACCES) {
+            return Unread::Forbidden;
+        }
+        match error.kind() {
+            ErrorKind::NotFound => Unread::NotFound,
+            ErrorKind::IsADirectory => Unread::Directory,
+            _ => Unread::Unreadable,
         }
     }
-    Loaded {
-        number: after(from, image),
-        length,
-    }
 }
 
-fn read_path<R: Files>(rt: &R, path: &str, image: &mut [u8]) -> Loaded
-    ensures { result.length ≤ length image.new }
+/// Of a file that holds a dump in a form of its own, what it is.
+pub fn form(image: &[u8]) -> Option<Unread>
+    ensures { result ≡ form_of image.now }
 {
-    match File::open(rt, path) {
-        Ok(mut file) => read_all(&mut file, image),
-        Err(error) => failed(error),
+    if image.starts_with(&UF2) {
+        Some(Unread::Uf2)
+    } else if image.starts_with(&ELF) {
+        Some(Unread::Elf)
+    } else {
+        None
     }
 }
 
-// An argument as a path; nothing where it is none (0), or no text, which a path has to be.
-fn path_of<'a, R: Env>(rt: &R, at: usize, space: &'a mut [u8]) -> Option<&'a str> {
-    if at == 0 {
-        return None;
+fn read_all<'a>(from: &mut impl Read, space: &'a mut [u8]) -> Result<&'a [u8], Unread>
+    ensures within { IfOk result (λ image. length image.now ≤ length space.old) }
+{
+    let n = read_full::read_full(from, space)?;
+    let image = &space[..n];
+    // A dump that fills the room may go on behind it.
+    if n == space.len() && from.read(&mut [0])? != 0 {
+        return Err(form(image).unwrap_or(Unread::TooLarge));
     }
+    Ok(image)
+}
+
+fn read_path<'a>(rt: &impl Files, path: &str, space: &'a mut [u8]) -> Result<&'a [u8], Unread>
+    ensures within { IfOk result (λ image. length image.now ≤ length space.old) }
+{
+    read_all(&mut File::open(rt, path)?, space)
+}
+
+// An argument as a path; nothing where it is no text, which a path has to be.
+fn path_of<'a>(rt: &impl Env, at: usize, space: &'a mut [u8]) -> Option<&'a str> {
     let n = rt.arg(at, space).unwrap_or(0);
     str::from_utf8(&space[..n]).ok()
 }
 
-fn read_link<R: Files + Env>(rt: &R, link: usize, image: &mut [u8]) -> Loaded
-    ensures { result.length ≤ length image.new }
+fn read_link<'a, R: Files + Env>(
+    rt: &R,
+    link: Option<usize>,
+    space: &'a mut [u8],
+) -> Result<&'a [u8], Unread>
+    ensures within { IfOk result (λ image. length image.now ≤ length space.old) }
 {
-    let mut space = [0; 4096];
-    match path_of(rt, link, &mut space) {
-        Some(path) => read_path(rt, path, image),
-        None => Loaded {
-            number: UNREADABLE,
-            length: 0,
-        },
-    }
+    let at = link.ok_or(Unread::Unreadable)?;
+    let mut name = [0; 4096];
+    let path = path_of(rt, at, &mut name).ok_or(Unread::Unreadable)?;
+    read_path(rt, path, space)
 }
 
-// Reads the file that argument `file` names, or the sample where that is 0, which argument `sample` names unless it is 0 too: then it is looked for
-// from the folder that the program is run in. A name that is no text can't be opened: in its place the link is that argument `link` names.
-pub fn load<R: Files + Input + Env>(
+/// Reads the file that is named, or the sample where none is; it is looked for from the folder that the program is run in where that has no name
+/// either. A name that is no text can't be opened: in its place the link is.
+pub fn load<'a, R: Files + Input + Env>(
     rt: &R,
-    file: usize,
-    sample: usize,
-    link: usize,
-    image: &mut [u8],
-) -> Loaded
-    ensures { result.length ≤ length image.new }
+    files: FileArguments,
+    space: &'a mut [u8],
+) -> Result<&'a [u8], Unread>
+    ensures within { IfOk result (λ image. length image.now ≤ length space.old) }
 {
-    let at = if file == 0 { sample } else { file };
-    if at == 0 {
-        return read_path(rt, "samples/rp2350.img", image);
-    }
-    let mut space = [0; 4096];
-    let Some(path) = path_of(rt, at, &mut space) else {
-        return read_link(rt, link, image);
+    let Some(at) = files.file.or(files.sample) else {
+        return read_path(rt, "samples/rp2350.img", space);
     };
-    if path == "-" {
-        return read_all(&mut rt.reader(), image);
+    let mut name = [0; 4096];
+    match path_of(rt, at, &mut name) {
+        None => read_link(rt, files.link, space),
+        Some("-") => read_all(&mut rt.reader(), space),
+        Some(path) => read_path(rt, path, space),
     }
-    read_path(rt, path, image)
 }

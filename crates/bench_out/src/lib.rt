@@ -1,13 +1,12 @@
-// What the bench says, on standard output or standard error, and its status: gathered, and written in few calls. Every write's result is looked at,
-// and after one that failed nothing more is written, so that an output has no hole.
+// What the bench says, on standard output or standard error, and its status: gathered, and written in few calls. Every write's result is looked at;
+// who writes hands an error on and writes nothing behind it, so that an output has no hole.
 #![tactic(auto)]
 
-mod write;
 mod escape; // text from outside
+mod write;
 
-ghost use Rattle.std.specs.Prelude.{◌≤◌};
-
-pub use escape::{character, file_name, shown};
+use arrayvec::ArrayString;
+pub use escape::{FileName, Shown};
 use std::fmt;
 use std::fmt::Write;
 
@@ -21,90 +20,70 @@ pub enum Stream {
 
 const ROOM: usize = 16384;
 
-// is_script: whether a script reads it. is_whole: every write so far took all that it was given. What is gathered: the room's first bytes, so many.
+// An output, for a person or a script; and what is gathered for it.
 #[derive(Drop)]
 pub struct Out {
     rt: HostRuntime,
     stream: Stream,
     is_script: bool,
-    is_whole: bool,
-    count: usize,
-    room: [u8; ROOM],
-    ghost within: { count ≤ 16384 },
+    room: ArrayString<ROOM>,
 }
 
-// An output with nothing in it, for a person or a script.
-pub fn to(rt: HostRuntime, stream: Stream, is_script: bool) -> Out {
-    Out {
-        rt,
-        stream,
-        is_script,
-        is_whole: true,
-        count: 0,
-        room: [0; ROOM],
+impl Out {
+    // An output with nothing in it.
+    pub fn new(rt: HostRuntime, stream: Stream, is_script: bool) -> Out {
+        Out {
+            rt,
+            stream,
+            is_script,
+            room: ArrayString::new(),
+        }
+    }
+
+    // Whether a script reads it.
+    pub fn is_script(&self) -> bool {
+        self.is_script
+    }
+
+    // Writes what is gathered.
+    pub fn flush(&mut self) -> fmt::Result {
+        let written = write::whole(self.rt, self.stream, self.room.as_str().as_bytes());
+        self.room.clear();
+        written
+    }
+
+    // Ends a report or a byte. A script's last line is `end`: without it the answer was cut short on its way.
+    pub fn end(&mut self) -> fmt::Result {
+        if self.is_script {
+            writeln!(self, "end")?;
+        }
+        self.flush()
+    }
+
+    // Writes many bytes as they stand, in as few calls as there can be.
+    pub fn bytes(&mut self, many: &[u8]) -> fmt::Result {
+        self.flush()?;
+        write::whole(self.rt, self.stream, many)
     }
 }
 
-pub fn is_script(out: &Out) -> bool {
-    out.is_script
-}
-
-// Whether every write so far took all that it was given.
-pub fn is_whole(out: &Out) -> bool {
-    out.is_whole
-}
-
-// Writes what is gathered.
-pub fn flush(out: &mut Out) {
-    let count = out.count;
-    out.count = 0;
-    if out.is_whole {
-        out.is_whole = write::whole(out.rt, out.stream, &out.room[..count]);
-    }
-}
-
-// Writes many bytes as they stand, in as few calls as there can be.
-pub fn bytes(out: &mut Out, many: &[u8]) {
-    flush(out);
-    if out.is_whole {
-        out.is_whole = write::whole(out.rt, out.stream, many);
-    }
-}
-
-pub fn byte(out: &mut Out, b: u8) {
-    if out.count == ROOM {
-        flush(out);
-    }
-    if out.count < ROOM {
-        out.room[out.count] = b;
-        out.count += 1;
-    }
-}
-
-pub fn text(out: &mut Out, words: &[u8]) {
-    for b in words {
-        byte(out, *b);
-    }
-}
-
+// Text that there is no room for is written behind what is gathered.
 impl fmt::Write for Out {
     fn write_str(&mut self, s: &str) -> fmt::Result {
-        text(self, s.as_bytes());
-        Ok(())
+        if self.room.write_str(s).is_ok() {
+            return Ok(());
+        }
+        self.flush()?;
+        if self.room.write_str(s).is_ok() {
+            return Ok(());
+        }
+        write::whole(self.rt, self.stream, s.as_bytes())
     }
 }
 
-pub fn number(out: &mut Out, n: u32) {
-    let _ = write!(out, "{n}");
-}
-
-// So many hexadecimal digits.
-fn hex_digits(out: &mut Out, n: u32, count: usize) {
-    let _ = write!(out, "{n:0count$x}");
-}
-
-// 0x and so many digits.
-pub fn hex(out: &mut Out, n: u32, count: usize) {
-    text(out, b"0x");
-    hex_digits(out, n, count);
+// Writes one text.
+pub fn say<D: fmt::Display + Drop>(rt: HostRuntime, stream: Stream, text: D) -> fmt::Result {
+    let mut out = Out::new(rt, stream, false);
+    write!(out, "{text}")?;
+    out.flush()
 }

@@ -2,6 +2,7 @@
 ghost use Rattle.std.specs.Prelude.{◌≤◌, length, IfOk};
 
 use crate::Stream;
+use std::fmt;
 use std::fs::File;
 use std::io::{Error, ErrorKind, Result, Write};
 
@@ -11,70 +12,34 @@ fn once<W: Write>(to: &mut W, bytes: &[u8]) -> Result<usize>
 {
     for _ in 0..255 {
         match to.write(bytes) {
-            Ok(n) => return Ok(n),
-            Err(error) => {
-                if error.kind() != ErrorKind::Interrupted {
-                    return Err(error);
-                }
-            }
+            Err(error) if error.kind() == ErrorKind::Interrupted => (),
+            written => return written,
         }
     }
     Err(Error::from(ErrorKind::Interrupted))
 }
 
-// How many bytes were written; and whether a write was refused that may be waited for.
-#[derive(Clone, Copy)]
-struct Written {
-    count: usize,
-    is_early: bool,
+// Where writing stopped: what is still to be written, and why.
+#[derive(Drop)]
+struct Stopped<'a> {
+    rest: &'a [u8],
+    error: Error,
 }
 
 // Writes the bytes, or stops where a write fails.
-fn many<W: Write>(to: &mut W, bytes: &[u8]) -> Written
-    ensures { result.count ≤ length bytes.now }
-{
-    let mut count = 0;
-    while count < bytes.len() {
-        match once(to, &bytes[count..]) {
-            Ok(0) => {
-                return Written {
-                    count,
-                    is_early: false,
-                };
-            }
-            Ok(n) => count += n,
-            Err(error) => {
-                let is_early = error.kind() == ErrorKind::WouldBlock;
-                return Written { count, is_early };
-            }
+fn many<'a, W: Write>(to: &mut W, bytes: &'a [u8]) -> std::result::Result<(), Stopped<'a>> {
+    let mut rest = bytes;
+    while !rest.is_empty() {
+        match once(to, rest) {
+            Ok(0) => return Err(Stopped {
+                rest,
+                error: Error::from(ErrorKind::WriteZero),
+            }),
+            Ok(n) => rest = &rest[n..],
+            Err(error) => return Err(Stopped { rest, error }),
         }
     }
-    Written {
-        count,
-        is_early: false,
-    }
-}
-
-fn many_on_file(to: Result<File>, bytes: &[u8]) -> Written
-    ensures { result.count ≤ length bytes.now }
-{
-    match to {
-        Ok(mut file) => many(&mut file, bytes),
-        Err(_) => Written {
-            count: 0,
-            is_early: false,
-        },
-    }
-}
-
-fn many_on(rt: HostRuntime, stream: Stream, bytes: &[u8]) -> Written
-    ensures { result.count ≤ length bytes.now }
-{
-    match stream {
-        Stream::Output => many(&mut rt.stdout(), bytes),
-        Stream::Error => many(&mut rt.stderr(), bytes),
-        Stream::Status => many_on_file(that_waits(rt, stream), bytes),
-    }
+    Ok(())
 }
 
 // The stream, opened anew. Writes on it wait, though those on the stream itself may not.
@@ -87,16 +52,23 @@ fn that_waits(rt: HostRuntime, stream: Stream) -> Result<File> {
     File::options().append(true).open(&rt, path)
 }
 
-// Writes what a pipe that does not wait refused just now.
-fn patiently(rt: HostRuntime, stream: Stream, bytes: &[u8]) -> bool {
-    many_on_file(that_waits(rt, stream), bytes).count == bytes.len()
+// Writes on the stream itself what a pipe takes now, and the rest where writes wait.
+fn patiently<W: Write>(to: &mut W, rt: HostRuntime, stream: Stream, bytes: &[u8]) -> Result<()> {
+    match many(to, bytes) {
+        Ok(()) => Ok(()),
+        Err(stop) if stop.error.kind() == ErrorKind::WouldBlock => {
+            that_waits(rt, stream)?.write_all(stop.rest)
+        }
+        Err(stop) => Err(stop.error),
+    }
 }
 
-// Whether all of the bytes were written.
-pub(crate) fn whole(rt: HostRuntime, stream: Stream, bytes: &[u8]) -> bool {
-    let written = many_on(rt, stream, bytes);
-    if written.is_early {
-        return patiently(rt, stream, &bytes[written.count..]);
-    }
-    written.count == bytes.len()
+// Writes all of the bytes. What writes text need not know why that failed.
+pub(crate) fn whole(rt: HostRuntime, stream: Stream, bytes: &[u8]) -> fmt::Result {
+    let written = match stream {
+        Stream::Output => patiently(&mut rt.stdout(), rt, stream, bytes),
+        Stream::Error => patiently(&mut rt.stderr(), rt, stream, bytes),
+        Stream::Status => that_waits(rt, stream).and_then(|mut file| file.write_all(bytes)),
+    };
+    written.map_err(|_| fmt::Error)
 }

@@ -3,128 +3,137 @@
 #![tactic(auto)]
 
 use bench_args::Request;
-use bench_form::form;
-use bench_out::{Out, Stream};
+use bench_file::Unread;
+use bench_form::Reason;
+use bench_out::{FileName, Out, Stream};
+use std::fmt;
+use std::fmt::Write;
 
-// How the answer is wanted: for a script, as bytes on standard output, by set 0's ROMs; and the argument that names the file (0: the sample).
+// How the answer is wanted: for a script, as bytes on standard output, by set 0's ROMs; and the argument that names the file (none: the sample).
 #[derive(Clone, Copy)]
 pub struct Asked {
     pub rt: HostRuntime,
     pub machine: bool,
     pub bytes: bool,
     pub by_set_0: bool,
-    pub file: usize,
+    pub file: Option<usize>,
 }
 
 pub fn how(rt: HostRuntime, request: Request) -> Asked {
     Asked {
         rt,
         machine: request.machine,
-        bytes: bench_args::is_bytes(request),
+        bytes: request.is_bytes,
         by_set_0: request.by_set_0,
-        file: request.file,
+        file: request.files.file,
     }
 }
 
-fn for_script(rt: HostRuntime, stream: Stream, n: u32) {
-    let mut out = bench_out::to(rt, stream, true);
-    form(&mut out, b"refused %d\nreason %w\n", &[n, n]);
-    bench_out::flush(&mut out);
+fn for_script(rt: HostRuntime, stream: Stream, why: Reason) -> fmt::Result {
+    let number = why.0;
+    bench_out::say(rt, stream, format_args!("refused {number}\nreason {why}\n"))
 }
 
-// The words; a number of the documents is shown before them, on the line above.
-fn words(out: &mut Out, n: u32) {
-    if n < 100 {
-        form(out, b"refused with %d:\n  %w\n", &[n, n]);
-    } else {
-        form(out, b"%w\n", &[n]);
+// For a person: what it is about, if anything, then the words; a number of the documents is shown before them, on the line above.
+fn for_person<D: fmt::Display + Drop>(
+    rt: HostRuntime,
+    why: Reason,
+    about: Option<D>,
+) -> fmt::Result {
+    let number = why.0;
+    let mut out = Out::new(rt, Stream::Error, false);
+    write!(out, "bench: ")?;
+    if let Some(about) = about {
+        write!(out, "{about}: ")?;
     }
-}
-
-// For a person: what it is about, then the words.
-fn for_person(rt: HostRuntime, about: usize, n: u32, of: &[u8], numbers: &[u32]) {
-    let mut out = bench_out::to(rt, Stream::Error, false);
-    bench_out::text(&mut out, b"bench: ");
-    if n != 100 {
-        bench_out::file_name(&mut out, about);
-        form(&mut out, of, numbers);
-        bench_out::text(&mut out, b": ");
+    if why.is_of_documents() {
+        write!(out, "refused with {number}:\n  ")?;
     }
-    words(&mut out, n);
-    bench_out::flush(&mut out);
+    writeln!(out, "{why}")?;
+    out.flush()
 }
 
-// A script's refusal goes to standard error where the standard output is for bytes.
-fn refused(asked: Asked, about: usize, n: u32, of: &[u8], numbers: &[u32]) {
-    if !asked.machine {
-        for_person(asked.rt, about, n, of, numbers);
-    } else if asked.bytes {
-        for_script(asked.rt, Stream::Error, n);
-    } else {
-        for_script(asked.rt, Stream::Output, n);
+impl Asked {
+    // An output for the answer.
+    pub fn output(self) -> Out {
+        Out::new(self.rt, Stream::Output, self.machine)
     }
-}
 
-// Something of the file is refused: a form and its numbers say what.
-pub fn part(asked: Asked, number: u8, of: &[u8], numbers: &[u32]) -> u8 {
-    refused(asked, asked.file, number as u32, of, numbers);
-    1
+    // The name of the file.
+    fn file_name(self) -> FileName {
+        FileName {
+            rt: self.rt,
+            at: self.file,
+        }
+    }
+
+    // A script's refusal goes to standard error where the standard output is for bytes. That it cannot be written changes no status.
+    fn refuse<D: fmt::Display + Drop>(self, why: Reason, about: Option<D>) {
+        let _ = if !self.machine {
+            for_person(self.rt, why, about)
+        } else if self.bytes {
+            for_script(self.rt, Stream::Error, why)
+        } else {
+            for_script(self.rt, Stream::Output, why)
+        };
+    }
+
+    // Something of the file is refused: `of` says what.
+    pub fn part<D: fmt::Display + Drop>(self, number: u8, of: D) -> u8 {
+        self.refuse(
+            Reason(number),
+            Some(format_args!("{}{of}", self.file_name())),
+        );
+        1
+    }
+
+    // The dump does not open. Here 2 is about the header.
+    pub fn opening(self, number: u8, image: &[u8]) -> u8 {
+        match opening_number(self.machine, number, image) {
+            2 => self.part(2, ", info header"),
+            n => self.part(n, ""),
+        }
+    }
+
+    // Ends an answer, of which `of` says what it is about. Where it was not written whole, standard error says so.
+    pub fn ended<D: fmt::Display + Drop>(self, written: fmt::Result, of: D) -> u8 {
+        if written.is_ok() {
+            return 0;
+        }
+        let why = Reason::NOT_WRITTEN;
+        let _ = if self.machine {
+            for_script(self.rt, Stream::Error, why)
+        } else {
+            for_person(self.rt, why, Some(format_args!("{}{of}", self.file_name())))
+        };
+        1
+    }
 }
 
 // An empty file is refused by the library with 2; for a person there are clearer words. A file that is no dump but holds one has words of its own.
 fn opening_number(machine: bool, number: u8, image: &[u8]) -> u8 {
-    if image.len() == 0 {
-        return if machine { number } else { 114 };
+    if !image.is_empty() {
+        return bench_file::form(image).map_or(number, Unread::number);
     }
-    bench_file::form_number(image, number)
+    if machine { number } else { Reason::EMPTY.0 }
 }
 
-// The dump does not open. Here 2 is about the header.
-pub fn opening(asked: Asked, number: u8, image: &[u8]) -> u8 {
-    let n = opening_number(asked.machine, number, image);
-    if n == 2 {
-        return part(asked, n, b", info header", &[]);
-    }
-    part(asked, n, b"", &[])
-}
-
-// The command line is not understood, by the argument `about`.
-pub fn arguments(asked: Asked, number: u8, about: usize) -> u8 {
-    refused(asked, about, number as u32, b"", &[]);
+// The command line is not understood, by the argument `about`; none where it is too long to be shown.
+pub fn arguments(asked: Asked, number: u8, about: Option<usize>) -> u8 {
+    let rt = asked.rt;
+    asked.refuse(
+        Reason(number),
+        about.map(|at| FileName { rt, at: Some(at) }),
+    );
     2
 }
 
-// Ends an answer, of which a form and its numbers say what it is about: what is gathered is written. Where not all could be, standard error says so.
-pub fn ended(asked: Asked, out: &mut Out, of: &[u8], numbers: &[u32]) -> u8 {
-    bench_out::flush(out);
-    if bench_out::is_whole(out) {
+// A page about no file.
+pub fn page(rt: HostRuntime, text: &str) -> u8 {
+    if bench_out::say(rt, Stream::Output, text).is_ok() {
         return 0;
     }
-    if asked.machine {
-        for_script(asked.rt, Stream::Error, 115);
-    } else {
-        for_person(asked.rt, asked.file, 115, of, numbers);
-    }
-    1
-}
-
-// The end of a report or a byte. A script's last line is `end`: without it the answer was cut short on its way.
-pub fn end(asked: Asked, out: &mut Out) -> u8 {
-    if asked.machine {
-        bench_out::text(out, b"end\n");
-    }
-    ended(asked, out, b"", &[])
-}
-
-// The end of the help, which is about no file.
-pub fn page_end(rt: HostRuntime, out: &mut Out) -> u8 {
-    bench_out::flush(out);
-    if bench_out::is_whole(out) {
-        return 0;
-    }
-    let mut other = bench_out::to(rt, Stream::Error, false);
-    form(&mut other, b"bench: %w\n", &[115]);
-    bench_out::flush(&mut other);
+    let _ = for_person(rt, Reason::NOT_WRITTEN, None::<&str>);
     1
 }
 
@@ -133,7 +142,7 @@ pub fn other_program(rt: HostRuntime, request: Request) -> u8 {
     if request.status {
         return 3;
     }
-    part(how(rt, request), 119, b"", &[])
+    how(rt, request).part(Reason::OTHER_PROGRAM.0, "")
 }
 
 // Where the caller asks for it, the status is one digit on descriptor 3, the last that is written.
@@ -141,7 +150,5 @@ pub fn tell(rt: HostRuntime, request: Request, status: u8) {
     if !request.status {
         return;
     }
-    let mut out = bench_out::to(rt, Stream::Status, true);
-    bench_out::number(&mut out, status as u32);
-    bench_out::flush(&mut out);
+    let _ = bench_out::say(rt, Stream::Status, status);
 }

@@ -1,109 +1,133 @@
 // The pins.
-use bench_form::{choice, told};
+use super::refused;
+use bench_form::{Numbers, Pin, Pins, Port};
 use bench_out::Out;
 use pins::{PinsItem, SdrrPins};
-use type_numbers::port_number;
+use std::fmt;
+use std::fmt::Write;
 
-// The bytes as numbers for a form.
-fn widened(bytes: &[u8]) -> [u32; 16] {
-    let mut n = [0; 16];
-    for i in 0..16 {
-        n[i] = le::u8_at(bytes, i) as u32;
-    }
-    n
+fn ports_for_person(out: &mut Out, p: SdrrPins) -> fmt::Result {
+    let rom_pins = p.rom_pins;
+    let data = Port(p.data_port);
+    let addr = Port(p.addr_port);
+    let cs = Port(p.cs_port);
+    let sel = Port(p.sel_port);
+    let status = Port(p.status_port);
+    writeln!(
+        out,
+        "Pins               {rom_pins}-pin ROM; ports: data {data}, address {addr},"
+    )?;
+    writeln!(
+        out,
+        "                   CS {cs}, select {sel}, status {status}"
+    )
 }
 
-fn pins_told(out: &mut Out, forms: &[u8], bytes: &[u8]) {
-    told(out, forms, &widened(bytes));
+// Arrays by value: so their lengths are known.
+fn lists_for_person(out: &mut Out, data: [u8; 8], addr: [u8; 16]) -> fmt::Result {
+    let (low, high) = addr.split_at(8);
+    writeln!(out, "                   data 0 to 7:{}", Pins(&data))?;
+    writeln!(out, "                   address 0 to 7:{}", Pins(low))?;
+    writeln!(out, "                   address 8 to 15:{}", Pins(high))
 }
 
-// Data pins and address pins, each by their own forms. Arrays by value: so their lengths are known.
-fn lists(out: &mut Out, of_data: &[u8], of_addr: &[u8], data: [u8; 8], addr: [u8; 16]) {
-    pins_told(out, of_data, &data);
-    pins_told(out, of_addr, &addr);
-}
-
-fn lines(out: &mut Out, p: SdrrPins) {
+fn for_person(out: &mut Out, p: SdrrPins) -> fmt::Result {
+    ports_for_person(out, p)?;
     let data = p.data;
     let addr = p.addr;
-    lists(
+    lists_for_person(out, data, addr)?;
+    let cs1 = Pin(p.cs1);
+    let cs2 = Pin(p.cs2);
+    let cs3 = Pin(p.cs3);
+    let x1 = Pin(p.x1);
+    let x2 = Pin(p.x2);
+    writeln!(
         out,
-        b"                   data 0 to 7: %n %n %n %n %n %n %n %n\n|\
-        pins.data %d %d %d %d %d %d %d %d\n",
-        b"                   address 0 to 7: %n %n %n %n %n %n %n %n\n                   \
-        address 8 to 15: %n %n %n %n %n %n %n %n\n|\
-        pins.addr %d %d %d %d %d %d %d %d %d %d %d %d %d %d %d %d\n",
-        data,
-        addr,
-    );
-    pins_told(
-        out,
-        b"                   CS1 %n, CS2 %n, CS3 %n, X1 %n, X2 %n,\n                   CE %n, OE %n, status %n\n|\
-        pins.cs1 %d\npins.cs2 %d\npins.cs3 %d\npins.x1 %d\npins.x2 %d\npins.ce %d\npins.oe %d\npins.status %d\n",
-        &[p.cs1, p.cs2, p.cs3, p.x1, p.x2, p.ce, p.oe, p.status],
-    );
+        "                   CS1 {cs1}, CS2 {cs2}, CS3 {cs3}, X1 {x1}, X2 {x2},"
+    )?;
+    let ce = Pin(p.ce);
+    let oe = Pin(p.oe);
+    let status = Pin(p.status);
+    writeln!(out, "                   CE {ce}, OE {oe}, status {status}")
 }
 
-// What only a script is told: the select pins, the pulls, SWCLK, SWDIO, extended; further data and address pins.
-fn script_lines(out: &mut Out, p: SdrrPins) {
-    pins_told(
+fn ports_for_script(out: &mut Out, p: SdrrPins) -> fmt::Result {
+    let ports = [
+        ("data", p.data_port),
+        ("addr", p.addr_port),
+        ("cs", p.cs_port),
+        ("sel", p.sel_port),
+        ("status", p.status_port),
+    ];
+    for (key, port) in ports {
+        writeln!(out, "pins.port.{key} {}", Port(port))?;
+    }
+    Ok(())
+}
+
+// The pins that stand by themselves, under their keys.
+fn single_pins(out: &mut Out, pins: &[(&str, u8)]) -> fmt::Result {
+    for (key, pin) in pins {
+        writeln!(out, "pins.{key} {pin}")?;
+    }
+    Ok(())
+}
+
+// A script is told all that the record holds: further data and address pins too.
+fn for_script(out: &mut Out, p: SdrrPins) -> fmt::Result {
+    write!(out, "pins.number 0\npins.rom_pins {}\n", p.rom_pins)?;
+    ports_for_script(out, p)?;
+    let data = p.data;
+    let addr = p.addr;
+    write!(
         out,
-        b"|pins.sel %d %d %d %d %d %d %d\npins.x_pull %d\npins.sel_pull %d\npins.swclk %d\npins.swdio %d\npins.extended %d\n",
+        "pins.data{}\npins.addr{}\n",
+        Numbers(&data),
+        Numbers(&addr)
+    )?;
+    single_pins(
+        out,
         &[
-            p.sel0,
-            p.sel1,
-            p.sel2,
-            p.sel3,
-            p.sel4,
-            p.sel5,
-            p.sel6,
-            p.x_jumper_pull,
-            p.sel_jumper_pull,
-            p.swclk_sel,
-            p.swdio_sel,
-            p.extended,
+            ("cs1", p.cs1),
+            ("cs2", p.cs2),
+            ("cs3", p.cs3),
+            ("x1", p.x1),
+            ("x2", p.x2),
+            ("ce", p.ce),
+            ("oe", p.oe),
+            ("status", p.status),
         ],
-    );
+    )?;
+    let sel = [p.sel0, p.sel1, p.sel2, p.sel3, p.sel4, p.sel5, p.sel6];
+    writeln!(out, "pins.sel{}", Numbers(&sel))?;
+    single_pins(
+        out,
+        &[
+            ("x_pull", p.x_jumper_pull),
+            ("sel_pull", p.sel_jumper_pull),
+            ("swclk", p.swclk_sel),
+            ("swdio", p.swdio_sel),
+            ("extended", p.extended),
+        ],
+    )?;
     let data = p.data2;
     let addr = p.addr2;
-    lists(
+    write!(
         out,
-        b"|pins.data2 %d %d %d %d %d %d %d %d\n",
-        b"|pins.addr2 %d %d %d %d %d %d %d %d %d %d %d %d %d %d %d %d\n",
-        data,
-        addr,
-    );
+        "pins.data2{}\npins.addr2{}\n",
+        Numbers(&data),
+        Numbers(&addr)
+    )
 }
 
-// Ports come as their numbers.
-pub(crate) fn pins(out: &mut Out, i: PinsItem) {
+pub(crate) fn pins(out: &mut Out, i: PinsItem) -> fmt::Result {
     let p = i.pins;
-    let data = p.data_port;
-    let addr = p.addr_port;
-    let cs = p.cs_port;
-    let sel = p.sel_port;
-    let status = p.status_port;
-    let n = widened(&[
-        i.number,
-        i.number,
-        p.rom_pins,
-        port_number(data),
-        port_number(addr),
-        port_number(cs),
-        port_number(sel),
-        port_number(status),
-    ]);
-    choice(
-        out,
-        b"Pins               %_%_%d-pin ROM; ports: data %p, address %p,\n                   CS %p, select %p, status %p\n|\
-        pins.number %d\n%_pins.rom_pins %d\n\
-        pins.port.data %p\npins.port.addr %p\npins.port.cs %p\npins.port.sel %p\npins.port.status %p\n|\
-        Pins               refused with %d: %w\n|pins.number %d\npins.reason %w\n",
-        (i.number != 0) as u8,
-        &n,
-    );
-    if i.number == 0 {
-        lines(out, p);
-        script_lines(out, p);
+    if i.number != 0 {
+        return refused(out, "Pins", "pins", i.number);
+    }
+    if out.is_script() {
+        for_script(out, p)
+    } else {
+        for_person(out, p)
     }
 }

@@ -1,13 +1,13 @@
-// The rows of an opened board: what is looked up in them, and where the dump holds a set.
+// An opened board, its report's rows beside it: what is looked up in them, and where the dump holds a set.
 #![tactic(auto)]
 
 ghost use Rattle.std.specs.Prelude.{◌≡◌, ◌*◌, length};
 ghost use Rattle.rows.specs.LentRows.{set_row_length, rom_row_length};
 
 use board::Board;
+use refusal::Refusal;
 use rows::{RomWord, SetWord};
-use set_data::Found;
-use text::Text;
+use window::Window;
 
 // Rows for 255 sets, and for 4,096 ROMs. The contracts give the lengths alone.
 pub fn set_space() -> [u32; 255 * rows::SET_WORDS]
@@ -22,34 +22,79 @@ pub fn rom_space() -> [u32; 4096 * rows::ROM_WORDS]
     [0; 4096 * rows::ROM_WORDS]
 }
 
-// A ROM's name: its part of the dump and its width, or the number of why it is missing.
-pub fn name_of(rom_rows: &[u32], row: u32) -> Text {
-    Text {
-        number: (rows::rom_word(rom_rows, row, RomWord::NameReason) % 256) as u8,
-        offset: rows::rom_word(rom_rows, row, RomWord::NameOffset),
-        length: rows::rom_word(rom_rows, row, RomWord::NameLength),
-        width: rows::rom_word(rom_rows, row, RomWord::NameWidth),
+// A part of the dump.
+#[derive(Clone, Copy, PartialEq, Eq)]
+pub struct Part {
+    pub at: u32,
+    pub length: u32,
+}
+
+// A ROM's name, and its width.
+#[derive(Clone, Copy)]
+pub struct Name {
+    pub part: Part,
+    pub width: u32,
+}
+
+#[derive(Clone, Copy)]
+pub struct Opened<'a> {
+    pub image: &'a [u8],
+    pub board: Board,
+    pub set_rows: &'a [u32],
+    pub rom_rows: &'a [u32],
+}
+
+impl<'a> Opened<'a> {
+    pub fn set_word(self, set: u32, word: SetWord) -> u32 {
+        rows::set_word(self.set_rows, set, word)
     }
-}
 
-// The row of a set's ROM k.
-pub fn rom_row(set_rows: &[u32], set: u32, k: u32) -> u32 {
-    let first = rows::set_word(set_rows, set, SetWord::FirstRom);
-    if 4294967295 - k < first {
-        return 4294967295;
+    pub fn rom_word(self, row: u32, word: RomWord) -> u32 {
+        rows::rom_word(self.rom_rows, row, word)
     }
-    first + k
-}
 
-// The address of the dump's first byte.
-pub fn base_of(board: Board) -> u32 {
-    let line = board.line;
-    window::base_after(board.flash_base, board.cs0_base, line)
-}
+    // The row of a set's ROM k.
+    pub fn rom_row(self, set: u32, k: u32) -> u32 {
+        self.set_word(set, SetWord::FirstRom).saturating_add(k)
+    }
 
-// Where the dump holds all of a set's bytes; or the number that a read of them is refused with.
-pub fn found(image: &[u8], base: u32, served: u32, set_rows: &[u32], set: u32) -> Found {
-    let data = set_data::set_data(served, set_rows, set);
-    let n = data.size as usize;
-    set_data::find(image, base, data, 0, n)
+    // A ROM's name; or the number of why it is missing.
+    pub fn name(self, row: u32) -> Result<Name, u8> {
+        let number = self.rom_word(row, RomWord::NameReason);
+        if number != 0 {
+            return Err((number % 256) as u8);
+        }
+        let part = Part {
+            at: self.rom_word(row, RomWord::NameOffset),
+            length: self.rom_word(row, RomWord::NameLength),
+        };
+        let width = self.rom_word(row, RomWord::NameWidth);
+        Ok(Name { part, width })
+    }
+
+    // Where the dump holds all of a set's bytes; or the number that a read of them is refused with.
+    pub fn stored(self, set: u32) -> Result<Part, u8> {
+        let board = self.board;
+        let line = board.line;
+        let base = window::base_after(board.flash_base, board.cs0_base, line);
+        let window = Window {
+            image: self.image,
+            base,
+        };
+        let length = self.set_word(set, SetWord::Size);
+        let n = length as usize;
+        set_data::set_bytes(window, board.served, self.set_rows, set, 0, n).map_err(
+            Refusal::number,
+        )?;
+        let at = self
+            .set_word(set, SetWord::DataPointer)
+            .saturating_sub(base);
+        Ok(Part { at, length })
+    }
+
+    // The bytes of a part; of one that the dump ends before, none.
+    pub fn bytes(self, part: Part) -> &'a [u8] {
+        let at = part.at as usize;
+        self.image.get(at..at + part.length as usize).unwrap_or(&[])
+    }
 }

@@ -3,187 +3,209 @@
 
 mod same;
 
-use bench_form::{choice, told};
-use bench_out::Out;
+use bench_form::{Count, Reason, RomType};
+use bench_out::{Out, Shown};
+use bench_rows::Opened;
 use rows::{RomWord, SetWord};
 use sets_item::SetsItem;
-use text::Text;
+use std::fmt;
+use std::fmt::Write;
 
-// A ROM's name. For a person the name's width stands on the line below, in front of the chip selects: the name itself can end in anything.
-fn rom_name(out: &mut Out, image: &[u8], set: u32, k: u32, name: Text) {
-    let n = name.number as u32;
-    choice(
-        out,
-        b"file |%_%_set.%0.rom.%1.name.number %d\nset.%0.rom.%1.name.text |\
-        no name (%_%_%d: %m)\n         |%_%_set.%0.rom.%1.name.number %d\nset.%0.rom.%1.name.reason %m\n",
-        (n != 0) as u8,
-        &[set, k, n, n],
-    );
-    if n != 0 {
-        return;
+// Why a ROM has no name, by the number in its row: here 1 says that no pointer leads to one.
+#[derive(Clone, Copy)]
+struct Nameless(u8);
+
+impl fmt::Display for Nameless {
+    fn fmt<W: fmt::Write>(&self, f: &mut fmt::Formatter<W>) -> fmt::Result {
+        match self.0 {
+            1 => f.write_str("none is stored"),
+            number => write!(f, "{}", Reason(number)),
+        }
     }
-    bench_out::shown(out, text::string_part(image, name));
-    told(
+}
+
+fn no_name(out: &mut Out, set: u32, k: u32, number: u8) -> fmt::Result {
+    let why = Nameless(number);
+    if out.is_script() {
+        writeln!(out, "set.{set}.rom.{k}.name.number {number}")?;
+        return writeln!(out, "set.{set}.rom.{k}.name.reason {why}");
+    }
+    write!(out, "no name ({number}: {why})\n         ")
+}
+
+// For a person the name's width stands on the line below, in front of the chip selects: the name itself can end in anything.
+fn rom_name(out: &mut Out, opened: Opened, set: u32, k: u32, row: u32) -> fmt::Result {
+    let name = match opened.name(row) {
+        Ok(name) => name,
+        Err(number) => return no_name(out, set, k, number),
+    };
+    let width = name.width;
+    let shown = Shown(opened.bytes(name.part));
+    if out.is_script() {
+        write!(
+            out,
+            "set.{set}.rom.{k}.name.number 0\nset.{set}.rom.{k}.name.text {shown}\n"
+        )?;
+        return writeln!(out, "set.{set}.rom.{k}.name.width {width}");
+    }
+    write!(
         out,
-        b"\n         %_%_%u; |\nset.%d.rom.%d.name.width %d\n",
-        &[set, k, name.width],
-    );
+        "file {shown}\n         {}; ",
+        Count(width, "character")
+    )
 }
 
 // For a person the chip selects end the line below the name.
-fn rom(out: &mut Out, image: &[u8], rom_rows: &[u32], row: u32, set: u32, k: u32) {
-    let t = rows::rom_word(rom_rows, row, RomWord::Type);
-    let c1 = rows::rom_word(rom_rows, row, RomWord::Cs1);
-    let c2 = rows::rom_word(rom_rows, row, RomWord::Cs2);
-    let c3 = rows::rom_word(rom_rows, row, RomWord::Cs3);
-    told(
-        out,
-        b"  ROM %1: %_%_%t, |%_%_set.%0.rom.%1.type %t\n\
-        set.%0.rom.%1.cs1 %a\nset.%0.rom.%1.cs2 %a\nset.%0.rom.%1.cs3 %a\n",
-        &[set, k, t, c1, c2, c3],
-    );
-    rom_name(out, image, set, k, bench_rows::name_of(rom_rows, row));
-    told(out, b"CS1 %c, CS2 %c, CS3 %c\n", &[c1, c2, c3]);
-}
-
-fn roms(out: &mut Out, image: &[u8], set_rows: &[u32], rom_rows: &[u32], set: u32) {
-    let count = rows::set_word(set_rows, set, SetWord::RomCount);
-    for k in 0..count {
-        let row = bench_rows::rom_row(set_rows, set, k);
-        rom(out, image, rom_rows, row, set, k);
+fn rom(out: &mut Out, opened: Opened, set: u32, k: u32) -> fmt::Result {
+    let row = opened.rom_row(set, k);
+    let rom_type = RomType(types::rom_type_of(opened.rom_word(row, RomWord::Type)));
+    let cs1 = opened.rom_word(row, RomWord::Cs1);
+    let cs2 = opened.rom_word(row, RomWord::Cs2);
+    let cs3 = opened.rom_word(row, RomWord::Cs3);
+    if out.is_script() {
+        writeln!(out, "set.{set}.rom.{k}.type {rom_type}")?;
+        for (n, cs) in [(1, cs1), (2, cs2), (3, cs3)] {
+            writeln!(
+                out,
+                "set.{set}.rom.{k}.cs{n} {}",
+                bench_form::select_word(cs)
+            )?;
+        }
+        return rom_name(out, opened, set, k, row);
     }
+    write!(out, "  ROM {k}: {rom_type}, ")?;
+    rom_name(out, opened, set, k, row)?;
+    let cs1 = bench_form::select(cs1);
+    let cs2 = bench_form::select(cs2);
+    let cs3 = bench_form::select(cs3);
+    writeln!(out, "CS1 {cs1}, CS2 {cs2}, CS3 {cs3}")
 }
 
-// Size and data pointer, and for a script whether the dump holds the bytes.
-fn head(out: &mut Out, set_rows: &[u32], set: u32, data: u32) {
-    let at = rows::set_word(set_rows, set, SetWord::DataPointer);
-    let size = rows::set_word(set_rows, set, SetWord::Size);
-    told(
+fn roms(out: &mut Out, opened: Opened, set: u32) -> fmt::Result {
+    for k in 0..opened.set_word(set, SetWord::RomCount) {
+        rom(out, opened, set, k)?;
+    }
+    Ok(())
+}
+
+// The set's lines for a script. data: why the dump does not hold its bytes, or 0.
+fn set_for_script(out: &mut Out, opened: Opened, set: u32, data: u8) -> fmt::Result {
+    let size = opened.set_word(set, SetWord::Size);
+    let at = opened.set_word(set, SetWord::DataPointer);
+    write!(
         out,
-        b"set %d: %d bytes at %x, |set.%d.size %d\nset.%0.data %x\nset.%0.data.number %d\n",
-        &[set, size, at, data],
-    );
+        "set.{set}.size {size}\nset.{set}.data {at:#010x}\nset.{set}.data.number {data}\n"
+    )?;
     if data != 0 {
-        told(out, b"|set.%d.data.reason %w\n", &[set, data]);
+        writeln!(out, "set.{set}.data.reason {}", Reason(data))?;
     }
+    let serve = opened.set_word(set, SetWord::Serve);
+    let state = opened.set_word(set, SetWord::State);
+    write!(
+        out,
+        "set.{set}.serve {serve}\nset.{set}.multi_rom_state {state}\n"
+    )?;
+    let config = opened.set_word(set, SetWord::Config);
+    let overrides = opened.set_word(set, SetWord::Overrides);
+    let count = opened.set_word(set, SetWord::RomCount);
+    write!(
+        out,
+        "set.{set}.config {config:#010x}\nset.{set}.overrides {overrides:#010x}\n"
+    )?;
+    writeln!(out, "set.{set}.roms {count}")
 }
 
 // For a person: further lines where a set has several ROMs, or the dump does not hold all of its bytes.
-fn serving(out: &mut Out, set_rows: &[u32], set: u32, data: u32) {
-    let count = rows::set_word(set_rows, set, SetWord::RomCount);
-    let serve = rows::set_word(set_rows, set, SetWord::Serve);
-    let state = rows::set_word(set_rows, set, SetWord::State);
-    let config = rows::set_word(set_rows, set, SetWord::Config);
-    let overrides = rows::set_word(set_rows, set, SetWord::Overrides);
-    told(
-        out,
-        b"%_%r, serving %s\n|%_%_set.%0.serve %d\nset.%0.multi_rom_state %d\n\
-        set.%0.config %x\nset.%0.overrides %x\nset.%0.roms %1\n",
-        &[set, count, serve, state, config, overrides],
-    );
+fn set_for_person(out: &mut Out, opened: Opened, set: u32, data: u8) -> fmt::Result {
+    let size = opened.set_word(set, SetWord::Size);
+    let at = opened.set_word(set, SetWord::DataPointer);
+    let count = opened.set_word(set, SetWord::RomCount);
+    let serving = bench_form::serving(opened.set_word(set, SetWord::Serve));
+    write!(out, "set {set}: {size} bytes at {at:#010x}, ")?;
+    writeln!(out, "{}, serving {serving}", Count(count, "ROM"))?;
     if 1 < count {
-        told(out, b"  multi-ROM set, CS1 %c\n", &[state]);
+        let state = bench_form::select(opened.set_word(set, SetWord::State));
+        writeln!(out, "  multi-ROM set, CS1 {state}")?;
     }
     if data != 0 {
-        told(out, b"  its data: refused with %d: %w\n", &[data, data]);
+        writeln!(out, "  its data: refused with {data}: {}", Reason(data))?;
     }
+    Ok(())
 }
 
 // Whether the set's bytes run past the dump's end.
-fn set(
-    out: &mut Out,
-    image: &[u8],
-    base: u32,
-    served: u32,
-    set_rows: &[u32],
-    rom_rows: &[u32],
-    set: u32,
-) -> bool {
-    let f = bench_rows::found(image, base, served, set_rows, set);
-    head(out, set_rows, set, f.number as u32);
-    serving(out, set_rows, set, f.number as u32);
-    roms(out, image, set_rows, rom_rows, set);
-    if bench_out::is_script(out) {
-        same::line(out, image, base, served, set_rows, rom_rows, set);
+fn set(out: &mut Out, opened: Opened, set: u32) -> Result<bool, fmt::Error> {
+    let data = opened.stored(set).err().unwrap_or(0);
+    if out.is_script() {
+        set_for_script(out, opened, set, data)?;
+    } else {
+        set_for_person(out, opened, set, data)?;
     }
-    f.number == 2
-}
-
-// Every set; or, for a person behind them all, those that are the same as an earlier one. Whether one of them is cut, or is the same.
-fn pass(
-    out: &mut Out,
-    image: &[u8],
-    base: u32,
-    served: u32,
-    set_rows: &[u32],
-    rom_rows: &[u32],
-    is_second: bool,
-) -> bool {
-    let mut any = false;
-    for i in 0..served {
-        let one = if is_second {
-            same::line(out, image, base, served, set_rows, rom_rows, i)
-        } else {
-            set(out, image, base, served, set_rows, rom_rows, i)
-        };
-        any = base::either(any, one);
+    roms(out, opened, set)?;
+    if out.is_script() {
+        same::line(out, opened, set)?;
     }
-    any
+    Ok(data == 2)
 }
 
 // For a person: a line for each set that is the same as an earlier one, and what that means; or one that says that none are.
-fn same_lines(
-    out: &mut Out,
-    image: &[u8],
-    base: u32,
-    served: u32,
-    set_rows: &[u32],
-    rom_rows: &[u32],
-) {
-    bench_out::byte(out, b'\n');
-    let is_any = pass(out, image, base, served, set_rows, rom_rows, true);
-    choice(
-        out,
-        b"no two sets are the same in size, ROM count, serving and types\n||\
-        (the same: size, ROM count, serving and types agree)\n",
-        is_any as u8,
-        &[],
-    );
+fn same_lines(out: &mut Out, opened: Opened) -> fmt::Result {
+    writeln!(out)?;
+    let mut is_any = false;
+    for i in 0..opened.board.served {
+        is_any |= same::line(out, opened, i)?;
+    }
+    if is_any {
+        writeln!(out, "(the same: size, ROM count, serving and types agree)")
+    } else {
+        writeln!(
+            out,
+            "no two sets are the same in size, ROM count, serving and types"
+        )
+    }
 }
 
 // A refused walk keeps the count and serves none. is_lost: metadata, which lists the sets, is refused.
-pub fn count(out: &mut Out, sets: SetsItem, is_lost: bool) {
-    let counted = sets.rom_set_count as u32;
-    let n = sets.number as u32;
-    let lost = if is_lost { 2 } else { 0 };
-    choice(
-        out,
-        b"Sets               %_%_%d\n|sets.number %d\n%_sets.count %d\nsets.served %d\n|\
-        Sets               refused with %d: %w\n                   counted %d, served none\n|\
-        sets.number %d\nsets.reason %w\nsets.count %d\nsets.served %d\n|\
-        Sets               none can be found without metadata\n|\
-        sets.number %d\n%_sets.count %d\nsets.served %d\n",
-        if n != 0 { 1 } else { lost },
-        &[n, n, counted, sets.served],
-    );
+pub fn count(out: &mut Out, sets: SetsItem, is_lost: bool) -> fmt::Result {
+    let number = sets.number;
+    let counted = sets.rom_set_count;
+    let served = sets.served;
+    if out.is_script() {
+        writeln!(out, "sets.number {number}")?;
+        if number != 0 {
+            writeln!(out, "sets.reason {}", Reason(number))?;
+        }
+        return write!(out, "sets.count {counted}\nsets.served {served}\n");
+    }
+    if number != 0 {
+        writeln!(
+            out,
+            "Sets               refused with {number}: {}",
+            Reason(number)
+        )?;
+        writeln!(out, "                   counted {counted}, served none")
+    } else if is_lost {
+        writeln!(out, "Sets               none can be found without metadata")
+    } else {
+        writeln!(out, "Sets               {counted}")
+    }
 }
 
-// Whether a set's bytes run past the dump's end. base: the address of the dump's first byte.
-pub fn sets(
-    out: &mut Out,
-    image: &[u8],
-    base: u32,
-    served: u32,
-    set_rows: &[u32],
-    rom_rows: &[u32],
-) -> bool {
+// Whether a set's bytes run past the dump's end.
+pub fn sets(out: &mut Out, opened: Opened) -> Result<bool, fmt::Error> {
+    let served = opened.board.served;
     if served == 0 {
-        return false;
+        return Ok(false);
     }
-    told(out, b"\n", &[]);
-    let is_cut = pass(out, image, base, served, set_rows, rom_rows, false);
-    if base::both(1 < served, !bench_out::is_script(out)) {
-        same_lines(out, image, base, served, set_rows, rom_rows);
+    if !out.is_script() {
+        writeln!(out)?;
     }
-    is_cut
+    let mut is_cut = false;
+    for i in 0..served {
+        is_cut |= set(out, opened, i)?;
+    }
+    if 1 < served && !out.is_script() {
+        same_lines(out, opened)?;
+    }
+    Ok(is_cut)
 }

@@ -2,8 +2,10 @@
 use super::{reads, record, show, words};
 use board::Board;
 use job_counts::JOBS;
+use refusal::Refusal;
+use rows::LentRows;
 use std::io;
-use types::{Level, SdrrCsSet};
+use types::SdrrCsSet;
 
 // A call as the input has it, in 16 bytes: kind, levels (five digits to base 3, CS1 the lowest), a half for the length, three words; the last is in
 // a history the job, and of a call by itself the count before it of the job that its place gives it.
@@ -50,11 +52,11 @@ pub(crate) fn history_call(calls: &[u8], at: usize) -> Call {
     call_of(bytes, le::u32_at(bytes, 12), 0)
 }
 
-fn level(digit: u8) -> Level {
+fn level(digit: u8) -> Option<bool> {
     match digit {
-        0 => Level::NotGiven,
-        1 => Level::Low,
-        _ => Level::High,
+        0 => None,
+        1 => Some(false),
+        _ => Some(true),
     }
 }
 
@@ -68,49 +70,50 @@ pub(crate) fn levels(n: u8) -> SdrrCsSet {
     }
 }
 
+// A refusal's number with 0, or 0 and the value.
+fn uncounted(answer: Result<u32, Refusal>) -> Reply {
+    match answer {
+        Ok(value) => Reply {
+            number: 0,
+            value,
+            count: 0,
+        },
+        Err(refusal) => Reply {
+            number: refusal.number(),
+            value: 0,
+            count: 0,
+        },
+    }
+}
+
 fn mangle(board: Board, sets: &[u32], roms: &[u32], call: Call) -> Reply {
     let pins = board.pins;
-    let r = info::mangle_address(
+    uncounted(info::mangle_address(
         pins,
         board.served,
         sets,
         roms,
         call.address,
         levels(call.levels),
-    );
-    Reply {
-        number: r.number,
-        value: r.value,
-        count: 0,
-    }
+    ))
 }
 
 fn demangle(board: Board, call: Call) -> Reply {
     let pins = board.pins;
-    let r = info::demangle_byte(pins, (call.address % 256) as u8);
-    Reply {
-        number: r.number,
-        value: r.value as u32,
-        count: 0,
-    }
+    uncounted(info::demangle_byte(pins, (call.address % 256) as u8).map(|byte| byte as u32))
 }
 
 fn size(board: Board, sets: &[u32], call: Call) -> Reply {
-    let r = set_data::get_rom_set_size(board.served, sets, call.set);
-    Reply {
-        number: r.number,
-        value: r.value,
-        count: 0,
-    }
+    uncounted(set_data::get_rom_set_size(board.served, sets, call.set))
 }
 
 fn same(board: Board, sets: &[u32], roms: &[u32], call: Call) -> Reply {
-    let r = same_set::same_set(board.served, sets, roms, call.set, call.address);
-    Reply {
-        number: r.number,
-        value: r.value,
-        count: 0,
-    }
+    let lent = LentRows {
+        set_rows: sets,
+        rom_rows: roms,
+    };
+    let same = same_set::same_set(board.served, lent, call.set, call.address);
+    uncounted(same.map(|b| b as u32))
 }
 
 fn run(

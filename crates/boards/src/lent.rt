@@ -6,7 +6,7 @@ use std::io;
 
 // The pins item: the pins of a record of 88 bytes, with a number of its own.
 fn pins(bytes: &[u8], number: u8) -> BoardPins {
-    let item = pins_record::parse_pins(bytes);
+    let item = pins::pins_item(pins_record::parse_pins(bytes));
     let pins = item.pins;
     board::board_pins(PinsItem { number, pins })
 }

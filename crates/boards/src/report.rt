@@ -1,6 +1,6 @@
 // The report as words: the header's fields, build date, revision, extra info, metadata, sets, pins. A refused item's words are in it too.
 use super::{show, words};
-use extra_info::{ExtraInfoItem, FirePioDefault};
+use extra_info::ExtraInfoItem;
 use header::SdrrInfoFields;
 use metadata::MetadataItem;
 use pins::{PinsItem, SdrrPins};
@@ -82,10 +82,10 @@ fn port(words: &mut [u32], at: usize, p: SdrrMcuPort) -> usize {
     byte(words, at, type_numbers::port_number(p))
 }
 
-fn pio_default(p: FirePioDefault) -> u32 {
+fn pio_default(p: Option<bool>) -> u32 {
     match p {
-        FirePioDefault::NotGiven => 2,
-        FirePioDefault::Given(b) => { if b { 1 } else { 0 } }
+        None => 2,
+        Some(b) => { if b { 1 } else { 0 } }
     }
 }
 

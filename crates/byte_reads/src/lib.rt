@@ -3,16 +3,18 @@
 #![tactic(auto)]
 
 ghost use Rattle.std.specs.Prelude.{◌≡◌, true, false};
+ghost use Rattle.refusal.specs.Refusal.{valued};
 ghost use Rattle.info.specs.Lent.{lent_by};
 ghost use Rattle.info.specs.Reads.{byte, rom_read};
+ghost use Rattle.set_data.specs.Code.{set_data};
 ghost use Rattle.byte_reads.specs.Calls.{byte_of};
 ghost use Rattle.byte_reads.specs.Code.{no_byte, stored_byte, byte_at, physical_by, shown_from};
 
 use board::{Board, BoardPins};
 use info::SdrrAddress;
-use mangle::Mangled;
-use set_data::SetData;
+use refusal::Refusal;
 use types::McuLine;
+use window::Window;
 
 // 0 and the byte, or the refusal's number and 0; and the served count afterwards.
 #[derive(Clone, Copy)]
@@ -33,22 +35,29 @@ fn no_byte(number: u8, count: u32) -> ByteRead
 }
 
 // The byte at a mangled address of a set.
-#[tactic(auto, unfolding(crate::specs::Code::stored_byte))]
-fn stored_byte(image: &[u8], base: u32, data: SetData, m: Mangled, count: u32) -> ByteRead
-    ensures { result ≡ stored_byte image.now base «data» m count }
+#[tactic(auto, using(demangle::specs::Refused::refused), unfolding(crate::specs::Code::stored_byte))]
+fn stored_byte(
+    w: Window,
+    served: u32,
+    set_rows: &[u32],
+    set: u32,
+    m: Result<u32, Refusal>,
+    count: u32,
+) -> ByteRead
+    ensures { result ≡ stored_byte w.entry.image.now w.entry.base (set_data served set_rows.now set) (valued m) count }
 {
-    if m.number != 0 {
-        return no_byte(m.number, count);
-    }
-    let found = set_data::find(image, base, data, m.value, 1);
-    if found.number != 0 {
-        return no_byte(found.number, count);
-    }
+    let offset = match m {
+        Ok(offset) => offset,
+        Err(refusal) => return no_byte(refusal.number(), count),
+    };
+    let bytes = match set_data::set_bytes(w, served, set_rows, set, offset, 1) {
+        Ok(bytes) => bytes,
+        Err(refusal) => return no_byte(refusal.number(), count),
+    };
     if count == 4294967295 {
         return no_byte(82, count);
     }
-    let at = found.at;
-    let byte = image[at];
+    let byte = bytes[0];
     let count = count + 1;
     ByteRead {
         number: 0,
@@ -64,14 +73,11 @@ fn physical_address(
     set_rows: &[u32],
     rom_rows: &[u32],
     address: SdrrAddress,
-) -> Mangled
-    ensures { result ≡ physical_by pins served set_rows.now rom_rows.now address }
+) -> Result<u32, Refusal>
+    ensures { valued result ≡ physical_by pins served set_rows.now rom_rows.now address }
 {
     match address {
-        SdrrAddress::Raw(offset) => Mangled {
-            number: 0,
-            value: offset,
-        },
+        SdrrAddress::Raw(offset) => Ok(offset),
         SdrrAddress::Logical(logical, cs_set) => {
             info::mangle_address(pins, served, set_rows, rom_rows, logical, cs_set)
         }
@@ -88,17 +94,17 @@ pub fn byte_at(
     served: u32,
     set_rows: &[u32],
     set: u32,
-    m: Mangled,
+    m: Result<u32, Refusal>,
     count: u32,
 ) -> ByteRead
-    ensures { result ≡ byte_at flash_base cs0_base line served set_rows.now set m count image.now }
+    ensures { result ≡ byte_at flash_base cs0_base line served set_rows.now set (valued m) count image.now }
 {
     if window::beyond_window(image, flash_base, cs0_base) {
         return no_byte(1, count);
     }
     let base = window::base_after(flash_base, cs0_base, line);
-    let data = set_data::set_data(served, set_rows, set);
-    stored_byte(image, base, data, m, count)
+    let w = Window { image, base };
+    stored_byte(w, served, set_rows, set, m, count)
 }
 
 pub fn byte_raw_on_count(
@@ -130,21 +136,20 @@ pub fn byte_raw_on_count(
 }
 
 // A raw byte that was read, demangled: 70 and 79 count nothing.
-#[tactic(auto, unfolding(crate::specs::Code::shown_from))]
+#[tactic(auto, using(demangle::specs::Refused::refused), unfolding(crate::specs::Code::shown_from))]
 pub fn shown_byte(pins_number: u8, data: [u8; 8], raw: ByteRead, count: u32) -> ByteRead
     ensures { result ≡ shown_from pins_number «data» raw count }
 {
     if raw.number != 0 {
         return raw;
     }
-    let d = info::demangle_by(pins_number, data, raw.byte);
-    if d.number != 0 {
-        return no_byte(d.number, count);
-    }
-    ByteRead {
-        number: 0,
-        byte: d.value,
-        count: raw.count,
+    match info::demangle_by(pins_number, data, raw.byte) {
+        Ok(byte) => ByteRead {
+            number: 0,
+            byte,
+            count: raw.count,
+        },
+        Err(refusal) => no_byte(refusal.number(), count),
     }
 }
 

@@ -1,14 +1,13 @@
 -- What a caller in another language hands over of a board: levels, pins, an address.
-use Rattle.std.specs.Prelude.{ℕ, List, eqb, get_or}
+use Rattle.std.specs.Prelude.{ℕ, Bool, Option, Some, List, eqb, get_or}
 use Rattle.base.specs.Choice.{pick}
-use Rattle.types.specs.declared.Level.{Level}
 use Rattle.types.specs.declared.SdrrCsSet.{SdrrCsSet}
 use Rattle.board.specs.declared.BoardPins.{BoardPins}
 use Rattle.info.specs.declared.SdrrAddress.{SdrrAddress}
 
 -- a level is a number: 1 is high, every other is low
-abbrev pub level_of : ℕ → Level
-level_of n = pick (eqb n 1) Level.High Level.Low
+abbrev pub level_of : ℕ → Option Bool
+level_of n = Some (eqb n 1)
 
 -- CS1, CS2, CS3, X1, X2
 abbrev pub levels_from : List ℕ → SdrrCsSet

@@ -5,15 +5,12 @@ ghost use Rattle.std.specs.Prelude.{◌≡◌};
 ghost use Rattle.c_board.specs.Board.{level_of, levels_from, pins_from};
 
 use board::BoardPins;
-use types::{Level, SdrrCsSet};
+use types::SdrrCsSet;
 
-fn level_of(n: u8) -> Level
+fn level_of(n: u8) -> Option<bool>
     ensures { result ≡ level_of n }
 {
-    if n == 1 {
-        return Level::High;
-    }
-    Level::Low
+    Some(n == 1)
 }
 
 pub fn levels_from(levels: [u8; 5]) -> SdrrCsSet

@@ -28,7 +28,7 @@ pub fn data_call(
     ensures counts { counts.new ≡ counts_left job counts.old (data_call flash_base cs0_base report set_rows.now set offset (length buffer.old) job counts.old image.now) }
 {
     if !job_counts::is_job(job) {
-        return job_counts::no_job(image, flash_base, cs0_base) as u32;
+        return job_counts::no_job(image, flash_base, cs0_base).number() as u32;
     }
     let mut data_count = job_counts::count_of(job, counts);
     let number = c_reads::data_on_count(
@@ -66,7 +66,7 @@ pub fn raw_byte_call(
     ensures value { value.new ≡ value_after result (byte_of (byte_call false flash_base cs0_base report set_rows.now rom_rows.now set logical address levels.now job counts.old image.now)).byte value.old }
 {
     if !job_counts::is_job(job) {
-        return job_counts::no_job(image, flash_base, cs0_base) as u32;
+        return job_counts::no_job(image, flash_base, cs0_base).number() as u32;
     }
     let mut raw_count = job_counts::count_of(job, counts);
     let number = c_reads::raw_byte_on_count(
@@ -107,7 +107,7 @@ pub fn demangled_byte_call(
     ensures value { value.new ≡ value_after result (byte_of (byte_call true flash_base cs0_base report set_rows.now rom_rows.now set logical address levels.now job counts.old image.now)).byte value.old }
 {
     if !job_counts::is_job(job) {
-        return job_counts::no_job(image, flash_base, cs0_base) as u32;
+        return job_counts::no_job(image, flash_base, cs0_base).number() as u32;
     }
     let mut shown_count = job_counts::count_of(job, counts);
     let number = c_reads::demangled_byte_on_count(
@@ -147,7 +147,7 @@ pub fn own_byte_call(
     ensures value { value.new ≡ value_after result (byte_of (own_call flash_base cs0_base report set_rows.now rom_rows.now set address levels.now job counts.old image.now)).byte value.old }
 {
     if !job_counts::is_job(job) {
-        return job_counts::no_job(image, flash_base, cs0_base) as u32;
+        return job_counts::no_job(image, flash_base, cs0_base).number() as u32;
     }
     let mut own_count = job_counts::count_of(job, counts);
     let number = c_own::own_byte_on_count(

@@ -1,7 +1,7 @@
 -- Mangling and demangling as C and Rust call them.
 use Rattle.std.specs.Prelude.{ℕ, List, replicate}
-use Rattle.mangle.specs.declared.Mangled.{Mangled}
-use Rattle.demangle.specs.declared.Demangled.{Demangled}
+use Rattle.mangle.specs.Mangle.{Mangled}
+use Rattle.demangle.specs.Demangle.{Demangled}
 use Rattle.info.specs.Lent.{mangle_address, demangled_by}
 use Rattle.c_board.specs.Board.{levels_from, pins_from}
 

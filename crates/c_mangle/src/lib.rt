@@ -5,7 +5,7 @@ ghost use Rattle.std.specs.Prelude.{◌≡◌};
 ghost use Rattle.c_board.specs.Value.{value_after};
 ghost use Rattle.c_mangle.specs.Board.{mangle_call, demangle_call};
 
-#[tactic(auto, unfolding(crate::specs::Board::mangle_call, info::specs::Lent::mangle_address, c_board::specs::Board::pins_from))]
+#[tactic(auto, using(demangle::specs::Refused::refused), unfolding(crate::specs::Board::mangle_call, c_board::specs::Board::pins_from))]
 pub fn mangle_call(
     pins_number: u8,
     rom_pins: u8,
@@ -23,24 +23,25 @@ pub fn mangle_call(
 {
     let pins = c_board::pins_from(pins_number, rom_pins, [0; 8], *addr, *control);
     let set = c_board::levels_from(*levels);
-    let g = governing::governing_set_0(pins_number, served, set_rows, rom_rows);
-    let m = info::mangle_by(g, pins, address, set);
-    if m.number != 0 {
-        return m.number as u32;
+    match info::mangle_address(pins, served, set_rows, rom_rows, address, set) {
+        Ok(mangled) => {
+            *value = mangled;
+            0
+        }
+        Err(refusal) => refusal.number() as u32,
     }
-    *value = m.value;
-    0
 }
 
-#[tactic(auto, unfolding(crate::specs::Board::demangle_call))]
+#[tactic(auto, using(demangle::specs::Refused::refused), unfolding(crate::specs::Board::demangle_call))]
 pub fn demangle_call(pins_number: u8, data: &[u8; 8], byte: u8, value: &mut u8) -> u32
     ensures reply { result ≡ (demangle_call pins_number «data».now byte).number }
     ensures value { value.new ≡ value_after result (demangle_call pins_number «data».now byte).value value.old }
 {
-    let r = info::demangle_by(pins_number, *data, byte);
-    if r.number != 0 {
-        return r.number as u32;
+    match info::demangle_by(pins_number, *data, byte) {
+        Ok(shown) => {
+            *value = shown;
+            0
+        }
+        Err(refusal) => refusal.number() as u32,
     }
-    *value = r.value;
-    0
 }

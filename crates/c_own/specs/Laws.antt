@@ -6,7 +6,7 @@ use Rattle.std.proofs.Common.{◌∙◌}
 use Rattle.types.specs.declared.McuLine.{McuLine}
 use Rattle.types.specs.declared.SdrrCsSet.{SdrrCsSet}
 use Rattle.board.specs.declared.BoardPins.{BoardPins}
-use Rattle.mangle.specs.declared.Mangled.{Mangled}
+use Rattle.mangle.specs.Mangle.{Mangled}
 use Rattle.info.specs.Lent.{lent_by, mangle_own}
 use Rattle.byte_reads.specs.declared.ByteRead.{ByteRead}
 use Rattle.byte_reads.specs.Code.{byte_at, shown_from}

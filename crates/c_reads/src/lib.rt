@@ -1,13 +1,13 @@
 // ROM data and the byte reads for C and Rust, on one count: by a report handed back.
 #![tactic(auto)]
 
-ghost use Rattle.std.specs.Prelude.{◌≡◌, true, false, length};
+ghost use Rattle.std.specs.Prelude.{◌≡◌, true, false, Result, Ok, length};
 ghost use Rattle.info.specs.Reads.{buffer_left};
 ghost use Rattle.c_board.specs.Value.{value_after};
 ghost use Rattle.c_reads.specs.Code.{data_on_count, byte_on_count};
 
 use c_report::OneromReport;
-use mangle::Mangled;
+use refusal::Refusal;
 
 #[tactic(auto, unfolding(crate::specs::Code::data_on_count, c_handed::specs::Handed::board_in))]
 pub fn data_on_count(
@@ -26,20 +26,17 @@ pub fn data_on_count(
     ensures count { count.new ≡ (data_on_count flash_base cs0_base report set_rows.now set offset (length buffer.old) count.old image.now).count }
 {
     let board = c_handed::board_in(flash_base, cs0_base, report);
-    let before = *count;
-    let stored = data_reads::data_on_count(image, board, set_rows, set, offset, buffer, before);
-    *count = stored.count;
-    stored.number as u32
+    match data_reads::data_on_count(image, board, set_rows, set, offset, buffer, count) {
+        Ok(()) => 0,
+        Err(refusal) => refusal.number() as u32,
+    }
 }
 
 // A raw offset, which no pin has a part in.
-fn offset(address: u32) -> Mangled
-    ensures { result ≡ record { number = 0; value = address } }
+fn offset(address: u32) -> Result<u32, Refusal>
+    ensures { result ≡ Ok address }
 {
-    Mangled {
-        number: 0,
-        value: address,
-    }
+    Ok(address)
 }
 
 // Two functions, not one that is given the flag: the compiler joins each to its only caller, and the report is not copied once more. For the

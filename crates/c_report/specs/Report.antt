@@ -1,10 +1,9 @@
 -- The report as C and Rust hold it: every item's number and values, in numbers of their own widths.
-use Rattle.std.specs.Prelude.{ℕ, Bool}
+use Rattle.std.specs.Prelude.{ℕ, Bool, Option, Some, None}
 use Rattle.base.specs.Choice.{pick}
 use Rattle.type_numbers.specs.TypeNumbers.{line_number, storage_number, port_number}
 use Rattle.text.specs.declared.Text.{Text}
 use Rattle.header.specs.declared.SdrrInfoFields.{SdrrInfoFields}
-use Rattle.extra_info.specs.declared.FirePioDefault.{FirePioDefault}
 use Rattle.extra_info.specs.declared.ExtraInfoItem.{ExtraInfoItem}
 use Rattle.metadata.specs.declared.MetadataItem.{MetadataItem}
 use Rattle.pins.specs.declared.PinsItem.{PinsItem}
@@ -48,9 +47,9 @@ unfoldable pub string_out : Text → OneromString
 string_out t = record { number = t.number; offset = t.offset; length = t.length; width = t.width }
 
 -- 0 off, 1 on, 2 not given
-unfoldable pub pio_number : FirePioDefault → ℕ
-pio_number FirePioDefault.NotGiven = 2
-pio_number (FirePioDefault.Given on) = bit on
+unfoldable pub pio_number : Option Bool → ℕ
+pio_number None = 2
+pio_number (Some on) = bit on
 
 unfoldable pub extra_out : ExtraInfoItem → OneromExtraInfo
 extra_out i =

@@ -4,7 +4,7 @@
 ghost use Rattle.std.specs.Prelude.{◌≡◌};
 ghost use Rattle.c_report.specs.Report.{bit, header_out, string_out, pio_number, extra_out, metadata_out, sets_out, pins_out, report_out};
 
-use extra_info::{ExtraInfoItem, FirePioDefault};
+use extra_info::ExtraInfoItem;
 use header::SdrrInfoFields;
 use metadata::MetadataItem;
 use pins::PinsItem;
@@ -170,12 +170,12 @@ fn string_out(t: Text) -> OneromString
 }
 
 #[tactic(auto, unfolding(crate::specs::Report::pio_number))]
-fn pio_number(p: FirePioDefault) -> u8
+fn pio_number(p: Option<bool>) -> u8
     ensures { result ≡ pio_number p }
 {
     match p {
-        FirePioDefault::NotGiven => 2,
-        FirePioDefault::Given(on) => bit_of(on),
+        None => 2,
+        Some(on) => bit_of(on),
     }
 }
 

@@ -6,16 +6,19 @@ ghost use Rattle.set_data.specs.Data.{size_call};
 ghost use Rattle.same_set.specs.Same.{same_set};
 ghost use Rattle.c_board.specs.Value.{value_after};
 
+use rows::LentRows;
+
 pub fn size_call(served: u32, set_rows: &[u32], set: u32, value: &mut u32) -> u32
     ensures reply { result ≡ (size_call served set_rows.now set).number }
     ensures value { value.new ≡ value_after result (size_call served set_rows.now set).value value.old }
 {
-    let s = set_data::get_rom_set_size(served, set_rows, set);
-    if s.number != 0 {
-        return s.number as u32;
+    match set_data::get_rom_set_size(served, set_rows, set) {
+        Ok(size) => {
+            *value = size;
+            0
+        }
+        Err(refusal) => refusal.number() as u32,
     }
-    *value = s.value;
-    0
 }
 
 pub fn same_call(
@@ -29,10 +32,12 @@ pub fn same_call(
     ensures reply { result ≡ (same_set served set_rows.now rom_rows.now a b).number }
     ensures value { value.new ≡ value_after result (same_set served set_rows.now rom_rows.now a b).value value.old }
 {
-    let same = same_set::same_set(served, set_rows, rom_rows, a, b);
-    if same.number != 0 {
-        return same.number as u32;
+    let lent = LentRows { set_rows, rom_rows };
+    match same_set::same_set(served, lent, a, b) {
+        Ok(same) => {
+            *value = same as u32;
+            0
+        }
+        Err(refusal) => refusal.number() as u32,
     }
-    *value = same.value;
-    0
 }

@@ -2,31 +2,31 @@
 #![tactic(auto)]
 
 ghost use Rattle.std.specs.Prelude.{◌≡◌};
-ghost use Rattle.text.specs.Text.{string_call, part_after};
+ghost use Rattle.text.specs.Text.{string_call, part_after, text_item};
+
+use refusal::Refusal;
+use text::TextPart;
+use window::Window;
 
 #[tactic(auto, unfolding(text::specs::Text::string_call))]
-fn string_at(image: &[u8], base: u32, pointer: u32) -> text::Text
-    ensures { result ≡ string_call base pointer image.now }
+fn string_at(w: Window, pointer: u32) -> Result<TextPart, Refusal>
+    ensures { text_item result ≡ string_call w.entry.base pointer w.entry.image.now }
 {
-    if window::past_window(image, base) {
-        return text::Text {
-            number: 1,
-            offset: 0,
-            length: 0,
-            width: 0,
-        };
+    if window::past_window(w.image, w.base) {
+        return Err(Refusal::PastWindow);
     }
-    strings::read_string_at_ptr(image, base, pointer)
+    strings::read_string_at_ptr(w, pointer)
 }
 
 pub fn string_call(image: &[u8], base: u32, pointer: u32, part: &mut [u32; text::PART_WORDS]) -> u32
     ensures reply { result ≡ (string_call base pointer image.now).number }
     ensures part { part.new ≡ part_after (string_call base pointer image.now) part.old }
 {
-    let t = string_at(image, base, pointer);
-    if t.number != 0 {
-        return t.number as u32;
+    match string_at(Window { image, base }, pointer) {
+        Ok(text) => {
+            *part = [text.offset, text.length, text.width];
+            0
+        }
+        Err(refusal) => refusal.number() as u32,
     }
-    *part = [t.offset, t.length, t.width];
-    0
 }

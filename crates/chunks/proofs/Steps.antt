@@ -1,69 +1,34 @@
--- What the code's tests say of the definitions, step by step.
+-- What the codreadables tests say of the definitions, step by step.
 -- Assumes nothing.
-use Prim.Native.Nat.{ℕ, suc, ◌+◌, ◌-◌, ◌*◌, ◌≤◌, ◌<◌}
-use native.Mathlib.Omega.{arith}
-use native.Mathlib.Numerals.{add-one}
-use mathlib.Core.Path.{◌≡◌, refl, ap, sym, ◌∙◌}
-use mathlib.Core.Bool.{true, false}
-use mathlib.Core.List.{List}
-use Rattle.std.specs.Prelude.{Some, None}
-use lib.ListN.{length, get_or, take, drop, length-drop, drop_of_length-le}
-use lib.Seq.{drop-cons, length-take-le}
-use borrow.Author.Tests.{eq-eqb, ne_eqb}
-use Rattle.base.specs.Laws.{cases}
+use Rattle.std.specs.Prelude.{ℕ, suc, ◌+◌, ◌-◌, ◌*◌, ◌≤◌, ◌<◌, ◌≡◌, refl, true, false, List, ◌∷◌, Option, Some, None, ◌==◌, eqb, cond, length, take, drop, position}
+use Rattle.std.specs.List.{position_or_len}
+use Rattle.std.proofs.Common.{arith, ap, sym, ◌∙◌, lt-ltb, le-ltb}
+use Rattle.std.proofs.lemmas.List.Recursion.{is_position_or_len}
+use Rattle.base.specs.Choice.{pick}
+use Rattle.base.specs.Laws.{cases, clash}
 use Rattle.window.specs.Window.{can_read}
 use Rattle.window.specs.Laws.{true_inside, part}
 use Rattle.prog.specs.Prog.{run}
-use Rattle.utf8.specs.Utf8.{is_utf8}
-use Rattle.utf8.specs.Points.{points, points_of}
-use Rattle.utf8.proofs.Laws.Points.{points_length, some_points, none_points}
-use Rattle.text.specs.Text.{accepted_text, refused_text, has_nul, before_nul, judged, text_p}
+use Rattle.text.specs.Text.{refused_text, has_nul, before_nul, judged, text_p}
 use Rattle.text.proofs.Laws.Nul.{before_shorter, before_all}
-use Rattle.text.proofs.Laws.Chunks.{rest_p, chunk_after, text_start, chunks_none, chunks_ended, chunks_found, chunks_next}
+use Rattle.text.proofs.Laws.Chunks.{text_below, rest_p, chunk_after, text_start, chunks_none, chunks_ended, chunks_found, chunks_next}
 
--- the search for a NUL: where it ends, where it finds one, and where it goes on
-module _ (s : List ℕ) (i : ℕ) where
-  pub nul_end : length s ≤ i → length (before_nul (drop i s)) ≡ 0
-  unfolding before_nul
-  nul_end h = rw (drop_of_length-le s h)
+-- the first NUL, as the code looks for it, stands where the bytes before it end
+nul_step : (b : ℕ) (s : List ℕ) → length (before_nul (b ∷ s)) ≡ cond (b == 0) 0 (1 + length (before_nul s))
+unfolding before_nul
+nul_step b s = cases (eqb b 0) (λ e. rw e) (λ e. rw e (omega arith))
 
-  pub nul_here : i < length s → get_or s i 0 ≡ 0 → length (before_nul (drop i s)) ≡ 0
-  unfolding before_nul
-  nul_here h e = rw (drop-cons s i 0 h, eq-eqb (get_or s i 0) 0 e)
+nul_counted : (s : List ℕ) → length (before_nul s) ≡ position_or_len (λ b. b == 0) s
+unfolding before_nul
+nul_counted s = is_position_or_len (λ (t : List ℕ). length (before_nul t)) (λ b. b == 0) refl nul_step s
 
-  pub nul_further : i < length s → (get_or s i 0 ≡ 0 → ⊥) → length (before_nul (drop i s)) ≡ suc (length (before_nul (drop (i + 1) s)))
-  unfolding before_nul
-  nul_further h e = rw (drop-cons s i 0 h, ne_eqb (get_or s i 0) 0 e, add-one)
+pub nul_position : (s : List ℕ) → position (λ b. b == 0) s ≡ pick (has_nul s) (Some (length (before_nul s))) None
+nul_position s =
+    cases (has_nul s)
+    (λ e. rw (← nul_counted s, e, lt-ltb (length (before_nul s)) (length s) (before_shorter s e)))
+    (λ e. let l = ap length (before_all s e) in rw (← nul_counted s, e, le-ltb (length (before_nul s)) (length s) (omega arith)))
 
--- a string whose NUL was found, as the code has its part: accepted, or not UTF-8
-module _ (x : List ℕ) (offset n : ℕ) (inside : offset + n ≤ length x) where
-  abbrev cut : List ℕ
-  cut = take (offset + n - offset) (drop offset x)
-
-  pub judged_good : true ≡ is_utf8 cut → judged offset (take n (drop offset x)) ≡ accepted_text offset n (points cut)
-  unfolding judged
-  judged_good h =
-      let full : length (take n (drop offset x)) ≡ n = length-take-le n (drop offset x) (simp length-drop (omega arith)) in
-      let u : is_utf8 (take n (drop offset x)) ≡ true = sym (h ∙ ap is_utf8 (part offset n x)) in
-      let w : points (take n (drop offset x)) ≡ points cut = sym (ap points (part offset n x)) in
-      rw (u, full, w)
-
-  pub judged_some : (w : ℕ) → Some w ≡ points_of cut → judged offset (take n (drop offset x)) ≡ accepted_text offset n w
-  judged_some w e = let u = some_points cut w e in rw u.1 (judged_good (sym u.0))
-
-  pub judged_none : None ≡ points_of cut → judged offset (take n (drop offset x)) ≡ refused_text 21
-  unfolding judged
-  judged_none e = let u : is_utf8 (take n (drop offset x)) ≡ false = sym (ap is_utf8 (part offset n x)) ∙ none_points cut e in rw u
-
-  -- no more than its bytes
-  pub few_points : (w : ℕ) → Some w ≡ points_of cut → w ≤ n
-  few_points w e =
-      let full : length cut ≡ n = ap length (part offset n x) ∙ length-take-le n (drop offset x) (simp length-drop (omega arith)) in
-      let u = some_points cut w e in
-      let l = points_length cut u.0 in
-      omega (arith, u.1, l.0, full)
-
--- what is known where n bytes are read: so many chunks are left, and they give the whole's answer
+-- what is known where n bytes are read: so many chunks are left, and they give the wholreadables answer
 pub record Rest (x : List ℕ) (base pointer n : ℕ) : Type 0 where
   pub left : ℕ
   pub whole : n + 64 * left ≡ 1024
@@ -74,45 +39,43 @@ pub rest_start : (x : List ℕ) (base pointer : ℕ) → base ≤ pointer → Re
 rest_start x base pointer h = record { left = 16; whole = refl; from = h; same = text_start x base pointer h }
 
 module _ (x : List ℕ) (base pointer n : ℕ) (r : Rest x base pointer n) where
-  pub rest_full : 1024 ≤ n → refused_text 20 ≡ run (text_p base pointer) x
+  pub rest_full : 1024 ≤ n → run (text_p base pointer) x ≡ refused_text 20
   rest_full h =
-      let z : r.left ≡ 0 = omega arith in
-      sym (r.same ∙ rw z (chunks_none x base pointer n))
+      let z : r.left ≡ 0 = omega (arith, r.whole) in
+      r.same ∙ rw z (chunks_none x base pointer n)
 
   module _ (short : n < 1024) where
     next : run (text_p base pointer) x ≡ run (rest_p x base pointer (suc (r.left - 1)) n) x
     next =
-        let z : r.left ≡ suc (r.left - 1) = omega arith in
+        let z : r.left ≡ suc (r.left - 1) = omega (arith, r.whole) in
         r.same ∙ ap (λ (l : ℕ). run (rest_p x base pointer l n) x) z
 
-    pub rest_refused : can_read x base (pointer + n) 64 ≡ false → refused_text 2 ≡ run (text_p base pointer) x
-    rest_refused e = sym (next ∙ chunks_ended x base pointer (r.left - 1) n e)
+    pub rest_refused : can_read x base (pointer + n) 64 ≡ false → run (text_p base pointer) x ≡ refused_text 2
+    rest_refused e = next ∙ chunks_ended x base pointer (r.left - 1) n e
 
-    module _ (e : can_read x base (pointer + n) 64 ≡ true) where
+    module _ (readable : can_read x base (pointer + n) 64 ≡ true) where
       -- the chunk lies in the image
       pub rest_fits : pointer - base + n + 64 ≤ length x
-      rest_fits = let i = true_inside x base (pointer + n) 64 e in omega (arith, r.from)
+      rest_fits = let i = true_inside x base (pointer + n) 64 readable in omega (arith, r.from)
 
-      -- so many bytes of the chunk come before a NUL, as the code counts them
-      module _ (m : ℕ) (count : m ≡ length (before_nul (take (pointer - base + n + 64 - (pointer - base + n)) (drop (pointer - base + n) x)))) where
-        counted : m ≡ length (before_nul (chunk_after x base pointer n))
-        counted = count ∙ ap (λ (s : List ℕ). length (before_nul s)) (part (pointer - base + n) 64 x)
+      -- where the code found a NUL in it, or none
+      module _ (u : Option ℕ) (sought : u ≡ position (λ b. b == 0) (take (pointer - base + n + 64 - (pointer - base + n)) (drop (pointer - base + n) x))) where
+        found : u ≡ pick (has_nul (chunk_after x base pointer n)) (Some (length (before_nul (chunk_after x base pointer n)))) None
+        found = sought ∙ ap (λ (s : List ℕ). position (λ b. b == 0) s) (part (pointer - base + n) 64 x) ∙ nul_position (chunk_after x base pointer n)
 
-        full : length (chunk_after x base pointer n) ≡ 64
-        full = let l = rest_fits in length-take-le 64 (drop (pointer - base + n) x) (simp length-drop (omega arith))
-
-        pub rest_judged : m < 64 → judged (pointer - base) (take (n + m) (drop (pointer - base) x)) ≡ run (text_p base pointer) x
-        rest_judged h =
-            let chunk = chunk_after x base pointer n in
-            cases (has_nul chunk)
+        pub rest_judged : (m : ℕ) → u ≡ Some m → judged (pointer - base) (take (pointer - base + n + m - (pointer - base)) (drop (pointer - base) x)) ≡ run (text_p base pointer) x
+        rest_judged m e =
+            cases (has_nul (chunk_after x base pointer n))
             (λ f.
-            sym (next ∙ chunks_found x base pointer (r.left - 1) n r.from e f
-            ∙ ap (λ (k : ℕ). judged (pointer - base) (take (n + k) (drop (pointer - base) x))) (sym counted)))
-            (λ f. absurd (omega (arith, counted, full, ap length (before_all chunk f))))
+            let k : m ≡ length (before_nul (chunk_after x base pointer n)) = cc (rw f at found) in
+            let w : pointer - base + n + m - (pointer - base) ≡ n + m = omega arith in
+            rw (w, k) (sym (next ∙ chunks_found x base pointer (r.left - 1) n r.from readable f)))
+            (λ f. clash (cc (rw f at found)))
 
-        pub rest_again : 64 ≤ m → Rest x base pointer (n + 64)
-        rest_again h =
-            let chunk = chunk_after x base pointer n in
-            cases (has_nul chunk)
-            (λ f. absurd (omega (arith, counted, full, before_shorter chunk f)))
-            (λ f. record { left = r.left - 1; whole = omega arith; from = r.from; same = next ∙ chunks_next x base pointer (r.left - 1) n r.from e f })
+        pub rest_again : u ≡ None → (n + 64 ≤ 1024) × Rest x base pointer (n + 64)
+        rest_again e =
+            cases (has_nul (chunk_after x base pointer n))
+            (λ f. clash (cc (rw f at found)))
+            (λ f. (omega (arith, r.whole), record { left = r.left - 1; whole = omega (arith, r.whole); from = r.from; same = next ∙ chunks_next x base pointer (r.left - 1) n r.from readable f }))
+
+pub ruleset read = (text_below, rest_start, rest_full, rest_refused, rest_fits, rest_judged, rest_again)

@@ -1,12 +1,16 @@
 -- One step of each recursive definition, in the terms of the loops.
 -- Assumes nothing.
-use Prim.Native.Nat.{ℕ, suc, ◌+◌, ◌*◌, ◌^◌, ◌≤◌, ◌<◌}
+use Prim.Native.Nat.{ℕ, suc, ◌+◌, ◌*◌, ◌%◌, ◌^◌, ◌≤◌, ◌<◌}
 use native.Mathlib.Nat.{add-mul, mul_assoc, pow-suc, mul-le-mul_right, le_of_suc-le-suc}
 use native.Mathlib.Numerals.{add-one}
 use native.Mathlib.Omega.{arith}
 use mathlib.Core.Path.{◌≡◌}
 use mathlib.Core.List.{List}
-use mathlib.Core.Bool.{true, false}
+use mathlib.Core.Bool.{Bool, true, false}
+use Rattle.std.specs.Int.{from_bool}
+use Rattle.std.specs.Int.Bits.{bit_or, or_shifted_r}
+use Rattle.std.proofs.Math.Pow.{shl_exact}
+use Rattle.std.proofs.Common.{◌∙◌, add_comm}
 use lib.ListN.{length, get_or, drop, drop_of_length-le}
 use lib.Seq.{drop-cons}
 use borrow.Author.Tests.{lt-ltb, le-ltb}
@@ -15,6 +19,14 @@ use Rattle.demangle.specs.Demangle.{all_below}
 
 horner : (b g i : ℕ) → (b + 2 * g) * 2 ^ i ≡ b * 2 ^ i + g * 2 ^ suc i
 horner b g i = rw (add-mul, pow-suc, mul_assoc 2 g, ← mul_assoc g (2 ^ i) 2) (omega arith)
+
+or_bit : (r b i : ℕ) → i < 31 → r < 2 ^ i → b < 2 → bit_or r (b * 2 ^ i % 4294967296) ≡ r + b * 2 ^ i
+or_bit r b i h k l = rw (shl_exact {a = b} 1 i 32 l (omega arith)) (or_shifted_r b i r k ∙ add_comm _ _)
+
+-- a level put above lower bits
+pub or_high : (high : Bool) (r i : ℕ) → i < 31 → r < 2 ^ i → bit_or r (from_bool high * 2 ^ i % 4294967296) ≡ r + from_bool high * 2 ^ i
+or_high true r i h k = or_bit r 1 i h k (omega arith)
+or_high false r i h k = or_bit r 0 i h k (omega arith)
 
 -- one more bit gathered
 pub gather_on : (es : List ℕ) (x r i : ℕ) → i < length es

@@ -1,8 +1,12 @@
 -- Document 01, "Mangling": demangling. Logic bit i is the byte's bit at data pin i.
 use Rattle.std.specs.Prelude.{ℕ, Bool, true, ◌&&◌, List, [], ◌∷◌, ltb}
 use Rattle.base.specs.Choice.{pick}
-use Rattle.demangle.specs.declared.Demangled.{Demangled}
+use Rattle.refusal.specs.Refusal.{Valued}
 use Rattle.demangle.specs.Bits.{gather}
+
+-- the demangled byte, or a number with 0
+abbrev pub Demangled : Type 0
+Demangled = Valued
 
 unfoldable pub all_below : ℕ → List ℕ → Bool
 all_below n [] = true

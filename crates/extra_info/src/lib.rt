@@ -3,19 +3,14 @@
 
 ghost use Rattle.std.specs.Prelude.{◌≡◌};
 ghost use Rattle.prog.specs.Prog.{run};
-ghost use Rattle.extra_info.specs.ExtraInfo.{pio_default_of, extra_info_fields, refused_extra_info, extra_info_of, extra_info_p};
+ghost use Rattle.extra_info.specs.ExtraInfo.{pio_default_of, extra_info_fields, refused_extra_info, extra_info_item, extra_info_of, extra_info_p};
 
+use refusal::Refusal;
 use types::SdrrMcuPort;
 use version::FirmwareVersion;
+use window::Window;
 
 const EXTRA_INFO_SIZE: usize = 256;
-
-// The PIO default flag, which firmware below 0.6.0 does not give.
-#[derive(Clone, Copy)]
-pub enum FirePioDefault {
-    NotGiven,
-    Given(bool),
-}
 
 #[derive(Clone, Copy)]
 pub struct SdrrExtraInfo {
@@ -23,7 +18,8 @@ pub struct SdrrExtraInfo {
     pub usb_dfu: bool,
     pub usb_port: SdrrMcuPort,
     pub vbus_pin: u8,
-    pub fire_pio_default: FirePioDefault,
+    // Given from firmware 0.6.0 on.
+    pub fire_pio_default: Option<bool>,
     pub runtime_info_ptr: u32,
 }
 
@@ -45,19 +41,32 @@ pub fn refuse(number: u8) -> ExtraInfoItem
             usb_dfu: false,
             usb_port: SdrrMcuPort::None,
             vbus_pin: 0,
-            fire_pio_default: FirePioDefault::NotGiven,
-            runtime_info_ptr: 4294967295,
+            fire_pio_default: None,
+            runtime_info_ptr: u32::MAX,
         },
     }
 }
 
-fn fire_pio_default(data: &[u8], version: FirmwareVersion) -> FirePioDefault
+// The item of a result.
+pub fn extra_info_item(r: Result<SdrrExtraInfo, Refusal>) -> ExtraInfoItem
+    ensures { result ≡ extra_info_item r }
+{
+    match r {
+        Ok(extra_info) => ExtraInfoItem {
+            number: 0,
+            extra_info,
+        },
+        Err(refusal) => refuse(refusal.number()),
+    }
+}
+
+fn fire_pio_default(data: &[u8], version: FirmwareVersion) -> Option<bool>
     ensures { result ≡ pio_default_of version «data».now }
 {
     if !version::from_0_6_0(version) {
-        return FirePioDefault::NotGiven;
+        return None;
     }
-    FirePioDefault::Given(le::flag_at(data, 7))
+    Some(le::flag_at(data, 7))
 }
 
 // The record's fields. A USB port that is none of the known ones becomes None.
@@ -77,25 +86,23 @@ fn read_fields(data: &[u8], version: FirmwareVersion) -> SdrrExtraInfo
 
 // The record at the front of data.
 #[tactic(auto, unfolding(crate::specs::ExtraInfo::extra_info_of))]
-pub fn parse_extra_info(data: &[u8], version: FirmwareVersion) -> ExtraInfoItem
-    ensures { result ≡ extra_info_of version «data».now }
+pub fn parse_extra_info(data: &[u8], version: FirmwareVersion) -> Result<SdrrExtraInfo, Refusal>
+    ensures { extra_info_item result ≡ extra_info_of version «data».now }
 {
     if data.len() < EXTRA_INFO_SIZE {
-        return refuse(2);
+        return Err(Refusal::Ended);
     }
-    ExtraInfoItem {
-        number: 0,
-        extra_info: read_fields(data, version),
-    }
+    Ok(read_fields(data, version))
 }
 
 // The record at a pointer, given to `parse_extra_info` as the image from there onward.
-pub fn read_extra_info(image: &[u8], base: u32, ptr: u32, version: FirmwareVersion) -> ExtraInfoItem
-    ensures { result ≡ run (extra_info_p base ptr version) image.now }
+#[tactic(auto, using(crate::specs::Laws::extra_info_pointer_refused, crate::specs::Laws::extra_info_pointer_read))]
+pub fn read_extra_info(
+    w: Window,
+    ptr: u32,
+    version: FirmwareVersion,
+) -> Result<SdrrExtraInfo, Refusal>
+    ensures { extra_info_item result ≡ run (extra_info_p w.entry.base ptr version) w.entry.image.now }
 {
-    let number = window::pointer_number(image, base, ptr, EXTRA_INFO_SIZE);
-    if number != 0 {
-        return refuse(number);
-    }
-    parse_extra_info(window::image_from(image, base, ptr as u64), version)
+    parse_extra_info(w.record_at(ptr, EXTRA_INFO_SIZE)?, version)
 }

@@ -2,7 +2,7 @@
 -- Laws/Steps has it that this is what the opening's definition says.
 use Rattle.std.specs.Prelude.{ℕ, Bool, ◌||◌, eqb}
 use Rattle.header.specs.declared.SdrrInfoFields.{SdrrInfoFields}
-use Rattle.records.specs.declared.Records.{Records}
+use Rattle.records.specs.Code.{RecordsShown}
 use Rattle.sets_item.specs.Code.{item_of}
 use Rattle.sdrr_info.specs.declared.SdrrInfo.{SdrrInfo}
 
@@ -11,7 +11,7 @@ abbrev pub is_short : ℕ → Bool
 is_short n = eqb n 44 || eqb n 45
 
 -- the report with that number
-unfoldable pub report_with : SdrrInfoFields → Records → ℕ → SdrrInfo
+unfoldable pub report_with : SdrrInfoFields → RecordsShown → ℕ → SdrrInfo
 report_with f r number =
     record {
       fields = f;

@@ -1,7 +1,7 @@
 -- Two small whole boards, a cut of each, and one whose walk is refused: the definition gives the report and rows that document 01 says, by computation.
 -- tests/model/boards.py has the images field by field.
 -- Assumes nothing.
-use Rattle.std.specs.Prelude.{ℕ, ◌≡◌, refl, Bool, true, false, List, [], ◌∷◌, ◌++◌, take, set, replicate}
+use Rattle.std.specs.Prelude.{ℕ, ◌≡◌, refl, Bool, true, false, List, [], ◌∷◌, ◌++◌, Option, Some, None, take, set, replicate}
 use Rattle.window.specs.Window.{can_read, past_window}
 use Rattle.magic.specs.Magic.{starts_with}
 use Rattle.prog.specs.Prog.{run, trace, end_of, answer, reach, tried, tried_shown, reads_of, and_then, tried_reads}
@@ -16,7 +16,6 @@ use Rattle.version.specs.declared.FirmwareVersion.{FirmwareVersion}
 use Rattle.version.specs.Version.{version, before}
 use Rattle.header.specs.declared.SdrrInfoFields.{SdrrInfoFields}
 use Rattle.header.specs.Header.{header_fields, whole_of, header_of, header_p}
-use Rattle.extra_info.specs.declared.FirePioDefault.{FirePioDefault}
 use Rattle.extra_info.specs.declared.ExtraInfoItem.{ExtraInfoItem}
 use Rattle.extra_info.specs.ExtraInfo.{no_extra_info, extra_info_of, extra_info_p}
 use Rattle.extra_info.specs.ExtraInfo as E
@@ -106,7 +105,7 @@ fields_on v line storage frequency clocked swd logging counting =
       boot_config = 1 ∷ 2 ∷ 3 ∷ 4 ∷ [];
     }
 
-abbrev extra_on : (rtt vbus : ℕ) → FirePioDefault → (runtime : ℕ) → ExtraInfoItem
+abbrev extra_on : (rtt vbus : ℕ) → Option Bool → (runtime : ℕ) → ExtraInfoItem
 extra_on rtt vbus pio runtime =
     record {
       number = 0;
@@ -151,7 +150,7 @@ old_report pins =
       fields = fields_on (version 0 4 2 7) McuLine.F405 McuStorage.StorageC 84 false true false true;
       build_date = accepted_text 64 3 3;
       hw_rev = accepted_text 68 4 4;
-      extra_info = extra_on 7954765 45 FirePioDefault.NotGiven 0;
+      extra_info = extra_on 7954765 45 None 0;
       metadata = MetadataItem.NotLookedFor;
       rom_sets = record { number = 0; rom_set_count = 1; served = 1 };
       pins = pins;
@@ -231,7 +230,7 @@ new_report pins =
       fields = fields_on (version 0 6 1 0) McuLine.Rp2350 McuStorage.Storage2MB 150 true false true false;
       build_date = accepted_text 64 5 5;
       hw_rev = accepted_text 70 7 7;
-      extra_info = extra_on 536875008 12 (FirePioDefault.Given true) 536879104;
+      extra_info = extra_on 536875008 12 (Some true) 536879104;
       metadata = MetadataItem.Looked 0;
       rom_sets = record { number = 0; rom_set_count = 2; served = 2 };
       pins = pins;
@@ -274,7 +273,7 @@ refused_report =
       fields = fields_on (version 0 6 1 0) McuLine.Rp2350 McuStorage.Storage2MB 150 true false true false;
       build_date = accepted_text 64 5 5;
       hw_rev = accepted_text 70 7 7;
-      extra_info = extra_on 536875008 12 (FirePioDefault.Given true) 536879104;
+      extra_info = extra_on 536875008 12 (Some true) 536879104;
       metadata = MetadataItem.Looked 0;
       rom_sets = record { number = 40; rom_set_count = 2; served = 0 };
       pins = record { number = 0; pins = new_pins };

@@ -6,8 +6,7 @@ use Rattle.prog.specs.Prog.{Prog, done, ◌>>=◌, also, map_p, run}
 use Rattle.text.specs.declared.Text.{Text}
 use Rattle.text.specs.Text.{text_p}
 use Rattle.header.specs.declared.SdrrInfoHeader.{SdrrInfoHeader}
-use Rattle.header.specs.declared.HeaderAnswer.{HeaderAnswer}
-use Rattle.header.specs.Header.{header_p}
+use Rattle.header.specs.Header.{HeaderAnswer, header_p}
 use Rattle.extra_info.specs.declared.ExtraInfoItem.{ExtraInfoItem}
 use Rattle.extra_info.specs.ExtraInfo.{extra_info_p}
 use Rattle.pins.specs.declared.PinsItem.{PinsItem}

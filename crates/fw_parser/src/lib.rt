@@ -2,18 +2,21 @@
 #![tactic(auto)]
 
 ghost use Rattle.std.specs.Prelude.{◌≡◌};
+ghost use Rattle.refusal.specs.Refusal.{refused_number};
 ghost use Rattle.text.specs.Text.{refused_text};
 ghost use Rattle.fw_parser.specs.Opening.{open_with, set_rows_left, rom_rows_left};
 ghost use Rattle.fw_parser.specs.Reply.{no_report, opening_reply};
+ghost use Rattle.records.specs.Code.{records_shown};
 ghost use Rattle.fw_parser.specs.Code.{is_short, report_with};
 
 use header::SdrrInfoFields;
 use metadata::MetadataItem;
 use records::Records;
+use refusal::Refusal;
 use sdrr_info::SdrrInfo;
 use sets_item::SetsItem;
 use text::Text;
-use window::Settings;
+use window::{Settings, Window};
 
 // 0 and the report, or the number of the refusal and the fixed report of `no_report`.
 #[derive(Clone, Copy)]
@@ -53,6 +56,16 @@ fn no_report() -> SdrrInfo
     }
 }
 
+// 0, or the number of the walk's refusal.
+fn walk_number(walk: Result<u32, Refusal>) -> u8
+    ensures { result ≡ refused_number walk }
+{
+    match walk {
+        Ok(_) => 0,
+        Err(refusal) => refusal.number(),
+    }
+}
+
 // 44 and 45, the only numbers of a walk that refuse the opening.
 fn is_short(number: u8) -> bool
     ensures { result ≡ is_short number }
@@ -60,17 +73,17 @@ fn is_short(number: u8) -> bool
     base::either(number == 44, number == 45)
 }
 
-// The report with that number of the walk.
+// The report with that walk.
 #[tactic(auto, unfolding(crate::specs::Code::report_with))]
-fn report(fields: SdrrInfoFields, records: Records, number: u8) -> SdrrInfo
-    ensures { result ≡ report_with fields records number }
+fn report(fields: SdrrInfoFields, records: Records, walk: Result<u32, Refusal>) -> SdrrInfo
+    ensures { result ≡ report_with fields (records_shown records) (refused_number walk) }
 {
     let build_date = records.build_date;
     let hw_rev = records.hw_rev;
     let extra_info = records.extra_info;
     let source = records.sets;
-    let metadata = source.metadata;
-    let rom_sets = sets_item::sets_item(number, source.rom_set_count);
+    let metadata = metadata::metadata_shown(source.metadata);
+    let rom_sets = sets_item::sets_item(walk, source.rom_set_count());
     let pins = records.pins;
     SdrrInfo {
         fields,
@@ -101,21 +114,28 @@ pub fn parse_flash(
             info: none,
         };
     }
-    let a = records::read_header(image, settings.flash_base, settings.info_offset);
-    if a.number != 0 {
-        return Opening {
-            number: a.number,
-            info: none,
-        };
-    }
-    let h = a.header;
+    let flash = Window {
+        image,
+        base: settings.flash_base,
+    };
+    let h = match records::read_header(flash, settings.info_offset) {
+        Ok(h) => h,
+        Err(refusal) => {
+            return Opening {
+                number: refusal.number(),
+                info: none,
+            };
+        }
+    };
     let fields = h.fields;
     let line = fields.stm_line;
     let base = window::base_after(settings.flash_base, settings.cs0_base, line);
-    let records = records::read_records(image, base, h);
+    let w = Window { image, base };
+    let records = records::read_records(w, h);
     let source = records.sets;
-    let number = sets_item::walk_sets(image, base, fields, source, set_rows, rom_rows);
-    let info = report(fields, records, number);
+    let walk = sets_item::walk_sets(w, fields, source, set_rows, rom_rows);
+    let number = walk_number(walk);
+    let info = report(fields, records, walk);
     if is_short(number) {
         return Opening { number, info: none };
     }

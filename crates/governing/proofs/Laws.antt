@@ -6,8 +6,7 @@ use borrow.Author.Tests.{eq-eqb, ne_eqb, le-leb, lt-leb, leb-true, leb-false, eq
 use Rattle.base.specs.Laws.{cases}
 use Rattle.types.specs.Types.{rom_type_of}
 use Rattle.rows.specs.LentRows.{has_set_row, rom_count, first_rom, type_word}
-use Rattle.governing.specs.declared.GoverningSet.{GoverningSet}
-use Rattle.governing.specs.Governing.{ungoverned, lacks_first_rom, governing, governing_set0, governing_own}
+use Rattle.governing.specs.Governing.{GoverningSet, ungoverned, lacks_first_rom, governing, governing_set0, governing_own}
 
 module _ (pins_number served : ℕ) (sets roms : List ℕ) where
   pub no_pins : (pins_number ≡ 0 → ⊥) → governing_set0 pins_number served sets roms ≡ ungoverned 70

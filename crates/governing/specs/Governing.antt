@@ -1,14 +1,27 @@
 -- Document 01, "Lent rows", and document 02, wish 1: what mangling goes by of the rows as lent, altered or not.
-use Rattle.std.specs.Prelude.{ℕ, Bool, not, ◌&&◌, List, leb, eqb}
+use Rattle.std.specs.Prelude.{ℕ, Bool, not, ◌&&◌, Result, Ok, Err, List, leb, eqb}
 use Rattle.base.specs.Choice.{pick}
 use Rattle.types.specs.declared.SdrrRomType.{SdrrRomType}
 use Rattle.types.specs.Types.{rom_type_of}
 use Rattle.rows.specs.LentRows.{has_set_row, first_rom, rom_count, type_word, bad_rom_row}
-use Rattle.governing.specs.declared.GoverningSet.{GoverningSet}
+use Rattle.refusal.specs.declared.Refusal.{Refusal}
+use Rattle.refusal.specs.Refusal.{number_of}
+use Rattle.rom_rules.specs.declared.GoverningSet.{GoverningSet as CodeSet}
+
+-- what mangling goes by of the rows: a set's ROM count and first type; or 70, 71, 80 or 4
+pub record GoverningSet : Type 0 where
+  pub number : ℕ
+  pub rom_count : ℕ
+  pub rom_type : SdrrRomType
 
 -- Where nothing governs, beside the number stand no ROMs and type number 0.
 abbrev pub ungoverned : ℕ → GoverningSet
 ungoverned n = record { number = n; rom_count = 0; rom_type = SdrrRomType.Rom2316 }
+
+-- as the code has it
+abbrev pub governing_item : Result CodeSet Refusal → GoverningSet
+governing_item (Ok s) = record { number = 0; rom_count = s.rom_count; rom_type = s.rom_type }
+governing_item (Err r) = ungoverned (number_of r)
 
 -- a set has ROMs, and its first ROM row isn't among those lent or has a type above 33
 abbrev pub lacks_first_rom : (sets roms : List ℕ) → ℕ → Bool

@@ -1,8 +1,10 @@
 -- Document 01, "Info header": 64 bytes.
-use Rattle.std.specs.Prelude.{ℕ, ◌+◌, Bool, false, not, ◌||◌, List, [], ◌∷◌, ltb, length}
+use Rattle.std.specs.Prelude.{ℕ, ◌+◌, Bool, false, not, ◌||◌, List, [], ◌∷◌, Result, Ok, Err, ltb, length}
 use Rattle.base.specs.Choice.{pick}
 use Rattle.le.specs.Le.{u8_at, u16_at, u32_at, flag_at}
 use Rattle.magic.specs.Magic.{starts_with}
+use Rattle.refusal.specs.declared.Refusal.{Refusal}
+use Rattle.refusal.specs.Refusal.{number_of}
 use Rattle.runs.specs.Runs.{four_at, eight_at}
 use Rattle.types.specs.declared.McuLine.{McuLine}
 use Rattle.types.specs.declared.McuStorage.{McuStorage}
@@ -11,7 +13,6 @@ use Rattle.prog.specs.Prog.{Prog, done, fetch}
 use Rattle.version.specs.declared.FirmwareVersion.{FirmwareVersion}
 use Rattle.header.specs.declared.SdrrInfoFields.{SdrrInfoFields}
 use Rattle.header.specs.declared.SdrrInfoHeader.{SdrrInfoHeader}
-use Rattle.header.specs.declared.HeaderAnswer.{HeaderAnswer}
 use Rattle.version.specs.Version.{version, below04, from051, from070}
 
 -- "SDRR"
@@ -88,8 +89,18 @@ no_header =
       extra_ptr = 0;
     }
 
+-- 0 and the header, or the number of its refusal and zeros
+pub record HeaderAnswer : Type 0 where
+  pub number : ℕ
+  pub header : SdrrInfoHeader
+
 abbrev pub refused_header : ℕ → HeaderAnswer
 refused_header n = record { number = n; header = no_header }
+
+-- that answer of the code's result
+abbrev pub header_item : Result SdrrInfoHeader Refusal → HeaderAnswer
+header_item (Ok h) = record { number = 0; header = h }
+header_item (Err r) = refused_header (number_of r)
 
 -- 2: fewer than 64 bytes. 10: magic. 11: line above 5. 12: storage above 7. 13: version at or past 0.7.0.
 unfoldable pub header_of : List ℕ → HeaderAnswer

@@ -9,9 +9,8 @@ use Rattle.magic.specs.Magic.{starts_with}
 use Rattle.prog.specs.Prog.{run}
 use Rattle.prog.proofs.Laws.Honest.{Honest, honesty}
 use Rattle.prog.proofs.Laws.Record.{front_byte, front_short, front_starts, record_ended, record_onward}
-use Rattle.header.specs.declared.HeaderAnswer.{HeaderAnswer}
 use Rattle.version.specs.Version.{below04, from070}
-use Rattle.header.specs.Header.{header_magic, version_of, header_fields, extra_pointer, whole_of, refused_header, header_of, header_p}
+use Rattle.header.specs.Header.{HeaderAnswer, header_magic, version_of, header_fields, extra_pointer, whole_of, refused_header, header_of, header_p}
 
 pub header_honest : (flash_base info_offset : ℕ) → Honest (λ (a : HeaderAnswer). a.number ≡ 2) (header_p flash_base info_offset)
 unfolding header_p

@@ -38,21 +38,11 @@ pub struct SdrrInfoHeader {
     pub extra_ptr: u32,
 }
 
-// 0 and the header, or the number of its refusal and zeros.
-#[derive(Clone, Copy)]
-pub struct HeaderAnswer {
-    pub number: u8,
-    pub header: SdrrInfoHeader,
-}
-
 // ROM infos have filenames from 0.5.1, or where boot logging is on.
 pub fn filenames_enabled(fields: SdrrInfoFields) -> bool
     ensures { result ≡ has_filenames fields }
 {
-    base::either(
-        version::from_0_5_1(fields.version),
-        fields.boot_logging_enabled,
-    )
+    version::from_0_5_1(fields.version) || fields.boot_logging_enabled
 }
 
 #[tactic(auto, unfolding(crate::specs::Header::no_header))]

@@ -3,10 +3,12 @@
 
 ghost use Rattle.std.specs.Prelude.{◌≡◌, ◌≤◌, length};
 ghost use Rattle.prog.specs.Prog.{run};
-ghost use Rattle.header.specs.Header.{version_of, header_fields, extra_pointer, whole_of, refused_header, header_of, header_p};
+ghost use Rattle.header.specs.Header.{version_of, header_fields, extra_pointer, whole_of, header_item, header_of, header_p};
 
-use header::{HeaderAnswer, SdrrInfoFields, SdrrInfoHeader};
+use header::{SdrrInfoFields, SdrrInfoHeader};
+use refusal::Refusal;
 use version::FirmwareVersion;
+use window::Window;
 
 const HEADER_SIZE: usize = 64;
 
@@ -28,7 +30,7 @@ fn read_fields(s: &[u8]) -> SdrrInfoFields
 {
     SdrrInfoFields {
         version: read_version(s),
-        commit: runs::eight_at(s, 16),
+        commit: runs::bytes_at(s, 16),
         stm_line: types::line_of(le::u16_at(s, 28)),
         stm_storage: types::storage_of(le::u16_at(s, 30)),
         freq: le::u16_at(s, 32),
@@ -40,7 +42,7 @@ fn read_fields(s: &[u8]) -> SdrrInfoFields
         boot_logging_enabled: s[39] != 0,
         mco_enabled: s[40] != 0,
         count_rom_access: s[42] != 0,
-        boot_config: runs::four_at(s, 52),
+        boot_config: runs::bytes_at(s, 52),
     }
 }
 
@@ -49,7 +51,7 @@ fn read_extra_ptr(s: &[u8]) -> u32
     ensures { result ≡ extra_pointer s.now }
 {
     if version::below_0_4(read_version(s)) {
-        return 4294967295;
+        return u32::MAX;
     }
     le::u32_at(s, 56)
 }
@@ -70,53 +72,37 @@ fn read_whole(s: &[u8]) -> SdrrInfoHeader
     }
 }
 
-#[tactic(auto, unfolding(header::specs::Header::no_header))]
-fn refuse(number: u8) -> HeaderAnswer
-    ensures { result ≡ refused_header number }
-{
-    let header = SdrrInfoHeader {
-        fields: header::no_fields(),
-        build_date_ptr: 0,
-        hw_rev_ptr: 0,
-        rom_set_count: 0,
-        rom_sets_ptr: 0,
-        pins_ptr: 0,
-        extra_ptr: 0,
-    };
-    HeaderAnswer { number, header }
-}
-
 // The header at the front of data.
 #[tactic(auto, unfolding(header::specs::Header::header_of))]
-pub fn parse_and_validate_header(data: &[u8]) -> HeaderAnswer
-    ensures { result ≡ header_of «data».now }
+pub fn parse_and_validate_header(data: &[u8]) -> Result<SdrrInfoHeader, Refusal>
+    ensures { header_item result ≡ header_of «data».now }
 {
     if data.len() < HEADER_SIZE {
-        return refuse(2);
+        return Err(Refusal::Ended);
     }
     if !magic::starts_with(data, b"SDRR") {
-        return refuse(10);
+        return Err(Refusal::HeaderMagic);
     }
     if 5 < le::u16_at(data, 28) {
-        return refuse(11);
+        return Err(Refusal::McuLine);
     }
     if 7 < le::u16_at(data, 30) {
-        return refuse(12);
+        return Err(Refusal::McuStorage);
     }
     if version::from_0_7_0(read_version(data)) {
-        return refuse(13);
+        return Err(Refusal::FirmwareVersion);
     }
-    let header = read_whole(data);
-    HeaderAnswer { number: 0, header }
+    Ok(read_whole(data))
 }
 
-// The header at flash base plus info offset, given to `parse_and_validate_header` as the image from there onward.
-pub fn retrieve_header(image: &[u8], flash_base: u32, info_offset: u32) -> HeaderAnswer
-    ensures { result ≡ run (header_p flash_base info_offset) image.now }
+// The header at the window's base plus info offset, given to `parse_and_validate_header` as the image from there onward.
+#[tactic(auto, using(header::specs::Laws::header_ended, header::specs::Laws::header_onward))]
+pub fn retrieve_header(w: Window, info_offset: u32) -> Result<SdrrInfoHeader, Refusal>
+    ensures { header_item result ≡ run (header_p w.entry.base info_offset) w.entry.image.now }
 {
-    let address = flash_base as u64 + info_offset as u64;
-    if !window::can_read(image, flash_base, address, HEADER_SIZE) {
-        return refuse(2);
+    let address = w.base as u64 + info_offset as u64;
+    if !w.can_read(address, HEADER_SIZE) {
+        return Err(Refusal::Ended);
     }
-    parse_and_validate_header(window::image_from(image, flash_base, address))
+    parse_and_validate_header(w.part_from(address))
 }

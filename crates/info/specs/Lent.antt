@@ -6,12 +6,9 @@ use Rattle.types.specs.declared.SdrrCsSet.{SdrrCsSet}
 use Rattle.board.specs.declared.BoardPins.{BoardPins}
 pub use Rattle.rows.specs.LentRows.{has_set_row, has_rom_row, set_word, data_pointer, size_of, first_rom, rom_count, serve_of, type_word, bad_rom_row, set_number}
 use Rattle.board.specs.declared.Board.{Board}
-use Rattle.governing.specs.declared.GoverningSet.{GoverningSet}
-use Rattle.governing.specs.Governing.{governing_set0, governing_own}
-use Rattle.mangle.specs.declared.Mangled.{Mangled}
-use Rattle.demangle.specs.declared.Demangled.{Demangled}
-use Rattle.mangle.specs.Mangle.{mangle_core}
-use Rattle.demangle.specs.Demangle.{demangle}
+use Rattle.governing.specs.Governing.{GoverningSet, governing_set0, governing_own}
+use Rattle.mangle.specs.Mangle.{Mangled, mangle_core}
+use Rattle.demangle.specs.Demangle.{Demangled, demangle}
 
 -- ---- mangling and demangling on a board
 

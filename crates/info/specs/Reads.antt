@@ -4,7 +4,7 @@ use Rattle.base.specs.Choice.{pick}
 use Rattle.window.specs.Window.{base_after, beyond_window}
 use Rattle.prog.specs.Prog.{Prog, done, map_p, run}
 use Rattle.types.specs.declared.SdrrCsSet.{SdrrCsSet}
-use Rattle.mangle.specs.declared.Mangled.{Mangled}
+use Rattle.mangle.specs.Mangle.{Mangled}
 use Rattle.info.specs.declared.SdrrAddress.{SdrrAddress}
 pub use Rattle.set_data.specs.Data.{Bytes, no_bytes}
 unfoldable pub use Rattle.set_data.specs.Data.{data_p}

@@ -18,6 +18,7 @@ use job_counts::JOBS;
 use types::SdrrCsSet;
 
 // The set's bytes from an offset on, as many as the buffer holds; a refused call changes no byte of it and no count.
+#[tactic(auto, using(jobs::proofs::Laws::Tested::none_read, jobs::proofs::Laws::Tested::none_left, jobs::proofs::Laws::Tested::none_buffer, jobs::proofs::Laws::Tested::its_read, jobs::proofs::Laws::Tested::its_left))]
 pub fn read_rom_set_data(
     image: &[u8],
     board: Board,
@@ -33,22 +34,22 @@ pub fn read_rom_set_data(
     ensures counts { counts.new ≡ counts_left job counts.old (board_read board set_rows.now [] job counts.old (range set offset (length buffer.old)) image.now) }
 {
     if !job_counts::is_job(job) {
-        let refused = job_counts::no_job(image, board.flash_base, board.cs0_base);
+        let refused = job_counts::no_job(image, board.flash_base, board.cs0_base).number();
         return Counted {
             number: refused,
             count: 0,
         };
     }
-    let before = job_counts::count_of(job, counts);
-    let data = data_reads::data_on_count(image, board, set_rows, set, offset, buffer, before);
-    job_counts::leave(job, data.count, counts);
-    data
+    let mut count = job_counts::count_of(job, counts);
+    let read = data_reads::data_on_count(image, board, set_rows, set, offset, buffer, &mut count);
+    job_counts::leave(job, count, counts);
+    data_reads::with_count(read, count)
 }
 
 fn no_byte(image: &[u8], board: Board) -> ByteRead
     ensures { result ≡ record { number = no_job_number board.flash_base board.cs0_base image.now; byte = 0; count = 0 } }
 {
-    let number = job_counts::no_job(image, board.flash_base, board.cs0_base);
+    let number = job_counts::no_job(image, board.flash_base, board.cs0_base).number();
     ByteRead {
         number,
         byte: 0,

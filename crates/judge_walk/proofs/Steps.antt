@@ -1,23 +1,29 @@
 -- What the code's tests say of the passes' definitions, step by step.
 -- Assumes nothing.
-use Prim.Native.Nat.{ℕ, zero, suc, ◌+◌, ◌-◌, ◌≤◌, ◌<◌}
+use Prim.Native.Nat.{ℕ, suc, ◌+◌, ◌-◌, ◌*◌, ◌≤◌, ◌<◌}
 use native.Mathlib.Omega.{arith}
-use native.Mathlib.Numerals.{sub-one}
-use mathlib.Core.Path.{◌≡◌, refl, sym, ◌∙◌}
+use mathlib.Core.Path.{◌≡◌, sym, ◌∙◌}
 use mathlib.Core.Bool.{Bool}
 use mathlib.Core.List.{List}
 use borrow.Author.Tests.{eq-eqb, ne_eqb, lt-ltb, le-ltb}
+use Rattle.refusal.specs.declared.Refusal.{Refusal}
+use Rattle.refusal.specs.Refusal.{number_of}
 use Rattle.prog.specs.Prog.{run}
 use Rattle.walk.specs.Walk.{walk_p}
 use Rattle.header.specs.declared.SdrrInfoFields.{SdrrInfoFields}
 use Rattle.version.specs.Version.{from060}
 use Rattle.header.specs.Header.{has_filenames}
-use Rattle.judge_walk.specs.declared.Walked.{Walked}
 use Rattle.walk.proofs.Laws.Passes.{roms_in, no_roms}
+use Rattle.set_header.specs.Laws.{stride_bound}
+use Rattle.walk.proofs.Laws.Total.{address_bound, address_step, total_step, total_roms}
 use Rattle.walk.proofs.Laws.Reached.{number_reached}
-use Rattle.judge_walk.specs.Code.{walked, judged_of, walked_good, walked_bad}
+use Rattle.judge_walk.specs.Code.{Walked, refused_walk, walked, judged_of, walked_good, walked_bad}
 use Rattle.judge_walk.proofs.Laws.{walk_judged}
 use Rattle.walk.specs.Code.Passes.{or_next, rom_number, roms_number, one_set_number, after, set_address, sets_number, walk_number}
+
+-- no refusal has number 0
+pub not_0 : (r : Refusal) → number_of r ≡ 0 → ⊥
+not_0 r e = grind arith
 
 -- ---- one part after the other
 
@@ -29,27 +35,30 @@ next_goes {n} h = rw (eq-eqb n 0 h)
 
 -- ---- so many ROMs
 
-module _ (x : List ℕ) (base : ℕ) (filenames : Bool) (entry left : ℕ) where
-  pub roms_none : left ≡ 0 → 0 ≡ roms_number x base filenames entry left
+module _ (x : List ℕ) (base : ℕ) (filenames : Bool) (table count k : ℕ) where
+  -- what is left of a table from ROM k on
+  abbrev left : ℕ → ℕ
+  left k = roms_number x base filenames (table + 4 * k) (count - k)
+
+  pub roms_none : count ≤ k → 0 ≡ left k
   unfolding roms_number
-  roms_none e = rw e
+  roms_none h = let e : count - k ≡ 0 = omega arith in rw e
 
-  module _ (h : left ≡ 0 → ⊥) (n : ℕ) (e : n ≡ rom_number x base filenames entry) where
-    step : roms_number x base filenames entry left ≡ or_next n (roms_number x base filenames (entry + 4) (left - 1))
+  module _ (h : k < count) (n : ℕ) (e : n ≡ rom_number x base filenames (table + 4 * k)) where
+    step : left k ≡ or_next n (left (k + 1))
     unfolding roms_number
-    step = rw e (go left h)
-      where
-        go : (k : ℕ) → (k ≡ 0 → ⊥) → roms_number x base filenames entry k ≡ or_next (rom_number x base filenames entry) (roms_number x base filenames (entry + 4) (k - 1))
-        go zero i = absurd (i refl)
-        go (suc k) i = rw sub-one
+    step =
+        let f : count - k ≡ suc (count - (k + 1)) = omega arith in
+        let g : table + 4 * k + 4 ≡ table + 4 * (k + 1) = omega arith in
+        rw (f, e, ← g)
 
-    pub roms_stop : (n ≡ 0 → ⊥) → n ≡ roms_number x base filenames entry left
+    pub roms_stop : (n ≡ 0 → ⊥) → n ≡ left k
     roms_stop f = next_stops _ f ∙ sym step
 
-    pub roms_next : n ≡ 0 → roms_number x base filenames (entry + 4) (left - 1) ≡ roms_number x base filenames entry left
+    pub roms_next : n ≡ 0 → left (k + 1) ≡ left k
     roms_next f = next_goes f ∙ sym step
 
-pub ruleset roms_steps = (roms_none, roms_stop, roms_next)
+pub ruleset roms_steps = (roms_none, roms_stop, roms_next, not_0)
 
 -- ---- so many sets
 
@@ -60,14 +69,16 @@ module _ (x : List ℕ) (base : ℕ) (filenames long : Bool) (pointer i address 
   unfolding sets_number
   sets_step k = rw (e, v) (number_reached x base filenames long i pointer (suc k) z)
 
-  pub sets_stop : (count : ℕ) → i < count → (n ≡ 0 → ⊥) → n ≡ sets_number x base filenames long pointer count
-  sets_stop count h f =
+  pub sets_stop : (count : ℕ) → i < count → (n ≡ 0 → ⊥) → (roms : ℕ) → refused_walk n ≡ walked (sets_number x base filenames long pointer count) roms
+  sets_stop count h f roms =
       let k : i + suc (count - i - 1) ≡ count = omega arith in
-      next_stops _ f ∙ sym (rw k at (sets_step (count - i - 1)))
+      walked_bad _ roms n (next_stops _ f ∙ sym (rw k at (sets_step (count - i - 1)))) f
 
   pub sets_next : n ≡ 0 → sets_number x base filenames long pointer (i + 1) ≡ 0
   unfolding sets_number
   sets_next f = sets_step 0 ∙ rw f
+
+pub ruleset sets_steps = (sets_stop, sets_next, not_0, walked_good, stride_bound, address_bound, address_step, total_step, total_roms)
 
 -- ---- the walk
 

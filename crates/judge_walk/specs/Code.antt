@@ -1,13 +1,28 @@
 -- What the pass that judges replies, by what the walk answers.
 -- Assumes nothing.
-use Rattle.std.specs.Prelude.{ℕ, ◌≡◌, List, eqb, length}
+use Rattle.std.specs.Prelude.{ℕ, ◌≡◌, refl, List, Result, Ok, Err, eqb, length}
 use Rattle.std.proofs.Common.{ne_eqb}
 use Rattle.base.specs.Choice.{pick}
-use Rattle.judge_walk.specs.declared.Walked.{Walked}
+use Rattle.refusal.specs.declared.Refusal.{Refusal}
+use Rattle.refusal.specs.Refusal.{number_of, refused_number}
 use Rattle.walk.specs.Walk.{RomSet, Part, stop, found, roms_of}
+
+-- 0, or the number of the walk's refusal; and where it is 0 how many ROMs the sets have
+pub record Walked : Type 0 where
+  pub number : ℕ
+  pub rom_count : ℕ
 
 abbrev pub refused_walk : ℕ → Walked
 refused_walk n = record { number = n; rom_count = 0 }
+
+-- a Result of the walk, as that record
+abbrev pub walk_item : Result ℕ Refusal → Walked
+walk_item (Ok roms) = record { number = 0; rom_count = roms }
+walk_item (Err r) = refused_walk (number_of r)
+
+pub item_number : (r : Result ℕ Refusal) → (walk_item r).number ≡ refused_number r
+item_number (Ok roms) = refl
+item_number (Err r) = refl
 
 -- a number, and the ROMs counted where it is 0
 unfoldable pub walked : ℕ → ℕ → Walked

@@ -1,19 +1,30 @@
 // The walk over ROM sets and ROM infos (parsing.rs `read_rom_sets`, `read_rom_infos`), the pass that only judges.
 #![tactic(auto)]
 
-ghost use Rattle.std.specs.Prelude.{◌≡◌, length};
+ghost use Rattle.std.specs.Prelude.{◌≡◌, true, false, IfOk, IfErr, length};
+ghost use Rattle.refusal.specs.Refusal.{refused_number};
 ghost use Rattle.prog.specs.Prog.{run};
+ghost use Rattle.window.specs.Window.{can_read, on_from};
 ghost use Rattle.walk.specs.Walk.{info_size, roms_of, walk_p};
 ghost use Rattle.walk.specs.Code.Passes.{info_number, rom_number, roms_number, table_number, pointed_number, header_number, part_number, one_set_number, sets_number, sets_at};
-ghost use Rattle.judge_walk.specs.Code.{walked, judged_of};
+ghost use Rattle.judge_walk.specs.Code.{walk_item, walked, judged_of};
 
 use header::SdrrInfoFields;
+use refusal::Refusal;
+use walk::WalkBy;
+use window::Window;
 
-// 0, or the number of the walk's refusal; and where it is 0 how many ROMs the sets have.
-#[derive(Clone, Copy)]
-pub struct Walked {
-    pub number: u8,
-    pub rom_count: u32,
+// The image from an address on, of which n bytes are there. By index: through `part_from`, which looks again where the address stands, an opening of
+// many ROMs takes a third more instructions.
+#[tactic(auto, using(base::specs::Laws::onward), unfolding(window::specs::Window::can_read, window::specs::Window::on_from))]
+fn read(w: Window, address: u64, n: usize) -> Result<&[u8], Refusal>
+    ensures there { IfOk result (λ s. (can_read w.entry.image.now w.entry.base address n ≡ true) × (s.now ≡ on_from w.entry.image.now w.entry.base address)) }
+    ensures ended { IfErr result (λ r. (can_read w.entry.image.now w.entry.base address n ≡ false) × (r ≡ Refusal.Ended)) }
+{
+    if !w.can_read(address, n) {
+        return Err(Refusal::Ended);
+    }
+    Ok(&w.image[(address - w.base as u64) as usize..])
 }
 
 // ---- ROM infos
@@ -27,181 +38,132 @@ fn info_size(filenames: bool) -> usize
 
 // What a ROM info's own bytes say.
 #[tactic(auto, unfolding(walk::specs::Code::Passes::info_number))]
-fn judge_rom_info(s: &[u8]) -> u8
-    ensures { result ≡ info_number s.now }
+fn judge_rom_info(s: &[u8]) -> Result<(), Refusal>
+    ensures { refused_number result ≡ info_number s.now }
 {
     if 33 < le::u8_at(s, 0) {
-        return 42;
+        return Err(Refusal::RomType);
     }
-    let last = base::either(2 < le::u8_at(s, 2), 2 < le::u8_at(s, 3));
-    if base::either(2 < le::u8_at(s, 1), last) {
-        return 43;
+    if 2 < le::u8_at(s, 1) || 2 < le::u8_at(s, 2) || 2 < le::u8_at(s, 3) {
+        return Err(Refusal::CsState);
     }
-    0
+    Ok(())
 }
 
 #[tactic(auto, unfolding(walk::specs::Code::Passes::rom_number))]
-fn judge_rom(image: &[u8], base: u32, filenames: bool, entry: u64) -> u8
-    ensures { result ≡ rom_number image.now base filenames entry }
+fn judge_rom(by: WalkBy, entry: u64) -> Result<(), Refusal>
+    ensures { refused_number result ≡ rom_number by.entry.window.image.now by.entry.window.base by.entry.filenames entry }
 {
-    if !window::can_read(image, base, entry, 4) {
-        return 2;
-    }
-    let ptr = set_header::info_ptr(image, base, entry);
-    if !window::can_read(image, base, ptr as u64, info_size(filenames)) {
-        return 2;
-    }
-    judge_rom_info(window::image_from(image, base, ptr as u64))
+    let ptr = le::u32_at(read(by.window, entry, 4)?, 0);
+    let info = read(by.window, ptr as u64, info_size(by.filenames))?;
+    judge_rom_info(info)
 }
 
 // So many ROMs, whose pointers stand in a table.
 #[tactic(auto, using(crate::proofs::Steps::roms_steps))]
-fn judge_roms(image: &[u8], base: u32, filenames: bool, table: u32, count: u8) -> u8
-    ensures { result ≡ roms_number image.now base filenames table count }
+fn judge_roms(by: WalkBy, table: u32, count: u8) -> Result<(), Refusal>
+    ensures { refused_number result ≡ roms_number by.entry.window.image.now by.entry.window.base by.entry.filenames table count }
 {
-    let mut entry = table as u64;
-    let mut left = count;
-    while left != 0 {
-        let n = judge_rom(image, base, filenames, entry);
-        if n != 0 {
-            return n;
-        }
-        entry += 4;
-        left -= 1;
+    for k in 0..count {
+        judge_rom(by, table as u64 + 4 * k as u64)?;
     }
-    0
+    Ok(())
 }
 
 #[tactic(auto, unfolding(walk::specs::Code::Passes::table_number))]
-fn judge_rom_infos(image: &[u8], base: u32, filenames: bool, table: u32, count: u8) -> u8
-    ensures { result ≡ table_number image.now base filenames count table }
+fn judge_rom_infos(by: WalkBy, table: u32, count: u8) -> Result<(), Refusal>
+    ensures { refused_number result ≡ table_number by.entry.window.image.now by.entry.window.base by.entry.filenames count table }
 {
     if count == 0 {
-        return 0;
+        return Ok(());
     }
-    if table < base {
-        return 3;
+    if table < by.window.base {
+        return Err(Refusal::BelowBase);
     }
-    judge_roms(image, base, filenames, table, count)
+    judge_roms(by, table, count)
 }
 
 // ---- ROM sets
 
 // What a set's config or overrides address must yield.
 #[tactic(auto, unfolding(walk::specs::Code::Passes::pointed_number))]
-fn judge_pointed(image: &[u8], base: u32, address: u32) -> u8
-    ensures { result ≡ pointed_number image.now base address }
+fn judge_pointed(w: Window, address: u32) -> Result<(), Refusal>
+    ensures { refused_number result ≡ pointed_number w.entry.image.now w.entry.base address }
 {
-    if address == 0 {
-        return 0;
+    if address != 0 {
+        read(w, address as u64, 64)?;
     }
-    if !window::can_read(image, base, address as u64, 64) {
-        return 2;
-    }
-    0
+    Ok(())
 }
 
 // A set's own bytes, then its config and overrides.
 #[tactic(auto, unfolding(walk::specs::Code::Passes::header_number))]
-fn judge_set_header(image: &[u8], base: u32, s: &[u8]) -> u8
-    ensures { result ≡ header_number image.now base s.now }
+fn judge_set_header(w: Window, s: &[u8]) -> Result<(), Refusal>
+    ensures { refused_number result ≡ header_number w.entry.image.now w.entry.base s.now }
 {
     if 2 < le::u8_at(s, 13) {
-        return 40;
+        return Err(Refusal::Serve);
     }
     if 2 < le::u8_at(s, 14) {
-        return 41;
+        return Err(Refusal::MultiRomState);
     }
-    let n = judge_pointed(image, base, set_header::serve_config(s));
-    if n != 0 {
-        return n;
-    }
-    judge_pointed(image, base, set_header::firmware_overrides(s))
+    judge_pointed(w, set_header::serve_config(s))?;
+    judge_pointed(w, set_header::firmware_overrides(s))
 }
 
 // The set whose part of the image is s.
 #[tactic(auto, unfolding(walk::specs::Code::Passes::part_number))]
-fn judge_part(image: &[u8], base: u32, filenames: bool, s: &[u8]) -> u8
-    ensures { result ≡ part_number image.now base filenames s.now }
+fn judge_part(by: WalkBy, s: &[u8]) -> Result<(), Refusal>
+    ensures { refused_number result ≡ part_number by.entry.window.image.now by.entry.window.base by.entry.filenames s.now }
 {
-    let n = judge_set_header(image, base, s);
-    if n != 0 {
-        return n;
-    }
-    judge_rom_infos(image, base, filenames, le::u32_at(s, 8), le::u8_at(s, 12))
+    judge_set_header(by.window, s)?;
+    judge_rom_infos(by, le::u32_at(s, 8), le::u8_at(s, 12))
 }
 
-// Always 64 bytes are read.
+// The set at an address; its part of the image. Always 64 bytes are read.
 #[tactic(auto, unfolding(walk::specs::Code::Passes::one_set_number))]
-fn judge_set(image: &[u8], base: u32, filenames: bool, address: u64) -> u8
-    ensures { result ≡ one_set_number image.now base filenames address }
+fn judge_set(by: WalkBy, address: u64) -> Result<&[u8], Refusal>
+    ensures number { refused_number result ≡ one_set_number by.entry.window.image.now by.entry.window.base by.entry.filenames address }
+    ensures part { IfOk result (λ s. s.now ≡ on_from by.entry.window.image.now by.entry.window.base address) }
 {
-    if !window::can_read(image, base, address, 64) {
-        return 2;
-    }
-    judge_part(
-        image,
-        base,
-        filenames,
-        window::image_from(image, base, address),
-    )
+    let s = read(by.window, address, 64)?;
+    judge_part(by, s)?;
+    Ok(s)
 }
 
 // So many sets, one after the other; the first stands at a pointer. Before every set `total` is the sum of the earlier sets' counts, as the loop's
 // invariant says (`total_is_sum` in proofs/judge_sets/Invariants.antt).
-fn judge_sets(image: &[u8], base: u32, filenames: bool, long: bool, ptr: u32, count: u8) -> Walked
-    ensures { result ≡ walked (sets_number image.now base filenames long ptr count) (length (roms_of (sets_at image.now base filenames long ptr count))) }
+#[tactic(auto, using(crate::proofs::Steps::sets_steps), unfolding(walk::specs::Rows::counts_of, walk::specs::Code::Passes::sets_at, walk::specs::Code::Passes::set_address, walk::specs::Code::Passes::sets_number))]
+fn judge_sets(by: WalkBy, ptr: u32, count: u8) -> Result<u32, Refusal>
+    ensures { walk_item result ≡ walked (sets_number by.entry.window.image.now by.entry.window.base by.entry.filenames by.entry.long ptr count) (length (roms_of (sets_at by.entry.window.image.now by.entry.window.base by.entry.filenames by.entry.long ptr count))) }
 {
     let mut address = ptr as u64;
-    let mut total: u32 = 0;
-    let mut i = 0;
-    while i < count {
-        let n = judge_set(image, base, filenames, address);
-        if n != 0 {
-            return Walked {
-                number: n,
-                rom_count: 0,
-            };
-        }
-        let s = window::image_from(image, base, address);
-        // the total before the next set
-        let next = set_header::total_with(total, le::u8_at(s, 12));
-        address += set_header::set_stride(long, s);
-        total = next;
-        i += 1;
+    let mut total = 0;
+    for _i in 0..count {
+        let s = judge_set(by, address)?;
+        total = set_header::total_with(total, le::u8_at(s, 12));
+        address += set_header::set_stride(by.long, s);
     }
-    Walked {
-        number: 0,
-        rom_count: total,
-    }
+    Ok(total)
 }
 
 // ---- the walk
 
-// The first pass: the number of the walk, and where it is accepted how many ROMs its sets have.
+// The first pass: why the walk is refused, or how many ROMs its sets have.
 #[tactic(auto, using(crate::proofs::Steps::walk_steps))]
 pub fn judge_rom_sets(
-    image: &[u8],
-    base: u32,
+    w: Window,
     fields: SdrrInfoFields,
     count: u8,
     ptr: u32,
-) -> Walked
-    ensures { result ≡ judged_of (run (walk_p base fields count ptr) image.now) }
+) -> Result<u32, Refusal>
+    ensures { walk_item result ≡ judged_of (run (walk_p w.entry.base fields count ptr) w.entry.image.now) }
 {
     if count == 0 {
-        return Walked {
-            number: 0,
-            rom_count: 0,
-        };
+        return Ok(0);
     }
-    if ptr < base {
-        return Walked {
-            number: 3,
-            rom_count: 0,
-        };
+    if ptr < w.base {
+        return Err(Refusal::BelowBase);
     }
-    let filenames = header::filenames_enabled(fields);
-    let long = version::from_0_6_0(fields.version);
-    judge_sets(image, base, filenames, long, ptr, count)
+    judge_sets(WalkBy::new(w, fields), ptr, count)
 }

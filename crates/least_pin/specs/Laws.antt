@@ -1,6 +1,6 @@
 -- The least of the pins, compared in pairs.
 -- Assumes nothing.
-use Rattle.std.specs.Prelude.{ℕ, zero, suc, ◌≤◌, ◌<◌, ◌≡◌, refl, Bool, true, false, List, [], ◌∷◌, ltb, length, get_or, drop}
+use Rattle.std.specs.Prelude.{ℕ, zero, suc, min, ◌≤◌, ◌<◌, ◌≡◌, refl, Bool, true, false, List, [], ◌∷◌, ltb, length, get_or, drop}
 use Rattle.std.proofs.Common.{not-suc-le-zero, le_of_suc-le-suc, arith, sym, ap, ◌∙◌, drop_of_length-le, drop-cons, ltb-true, ltb-false, lt-ltb, le-ltb}
 use Rattle.base.specs.Choice.{pick}
 use Rattle.board.specs.declared.BoardPins.{BoardPins}
@@ -11,6 +11,15 @@ lesser a b = pick (ltb a b) a b
 
 abbrev pub least_of_four : (a b c d : ℕ) → ℕ
 least_of_four a b c d = lesser (lesser a b) (lesser c d)
+
+-- std's word for it
+pub min_is : (a b : ℕ) → min a b ≡ lesser a b
+unfolding lesser
+min_is a b = go (ltb a b) refl
+  where
+    go : (c : Bool) → ltb a b ≡ c → min a b ≡ pick c a b
+    go true e = let h = ltb-true a b e in omega arith
+    go false e = let h = ltb-false a b e in omega arith
 
 lesser_comm : (a b : ℕ) → lesser a b ≡ lesser b a
 unfolding lesser

@@ -3,24 +3,18 @@
 
 ghost use Rattle.std.specs.Prelude.{◌≡◌};
 ghost use Rattle.least_pin.specs.LeastPin.{least_of, least_pin};
-ghost use Rattle.least_pin.specs.Laws.{lesser, least_of_four};
+ghost use Rattle.least_pin.specs.Laws.{least_of_four};
 
 use board::BoardPins;
 
-#[tactic(auto, unfolding(crate::specs::Laws::lesser))]
-fn lesser(a: u8, b: u8) -> u8
-    ensures { result ≡ lesser a b }
-{
-    if a < b { a } else { b }
-}
-
+#[tactic(auto, using(crate::specs::Laws::min_is))]
 fn least_of_four(a: u8, b: u8, c: u8, d: u8) -> u8
     ensures { result ≡ least_of_four a b c d }
 {
-    lesser(lesser(a, b), lesser(c, d))
+    a.min(b).min(c.min(d))
 }
 
-// The pins are compared in pairs: in a chain each waits for the one before.
+// In pairs and not by `iter().min()`, for speed: in a chain each comparison waits for the one before.
 fn least_address(a: [u8; 16]) -> u8
     ensures { result ≡ least_of a 255 }
 {
@@ -43,5 +37,5 @@ pub fn least_pin(pins: BoardPins) -> u8
     }
     let k = least_of_four(pins.cs1, pins.cs2, pins.cs3, m);
     let l = least_of_four(pins.x1, pins.x2, pins.ce, pins.oe);
-    lesser(k, l)
+    k.min(l)
 }

@@ -7,8 +7,7 @@ use Rattle.demangle.specs.Bits.{is_bit, taken_bit}
 use Rattle.pin_words.specs.declared.Placed.{Placed}
 use Rattle.pin_words.specs.Code.{on_pin}
 use Rattle.rom_rules.specs.Rules.{rules_of, control_bits, several, mangle_number}
-use Rattle.mangle.specs.declared.Mangled.{Mangled}
-use Rattle.mangle.specs.Mangle.{mangled_to}
+use Rattle.mangle.specs.Mangle.{Mangled, mangled_to}
 use Rattle.mangle.specs.PinMap.{off, control_off}
 
 abbrev pub is_high_pin : (v p : ℕ) → Bool

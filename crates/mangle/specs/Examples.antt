@@ -1,8 +1,7 @@
 -- Document 01, "Bench cases": M1 to M4, computed.
-use Rattle.std.specs.Prelude.{ℕ, ◌+◌, ◌≡◌, refl, List, [], ◌∷◌, ◌++◌, map, replicate}
+use Rattle.std.specs.Prelude.{ℕ, Bool, true, Option, Some, None, ◌+◌, ◌≡◌, refl, List, [], ◌∷◌, ◌++◌, map, replicate}
 use Rattle.types.specs.Types.{is_high}
 use Rattle.type_numbers.specs.TypeNumbers.{rom_type_number}
-use Rattle.types.specs.declared.Level.{Level}
 use Rattle.types.specs.declared.SdrrRomType.{SdrrRomType}
 use Rattle.types.specs.declared.SdrrCsSet.{SdrrCsSet}
 use Rattle.board.specs.declared.BoardPins.{BoardPins}
@@ -40,25 +39,25 @@ abbrev pub board2364 : ℕ → BoardPins
 board2364 k = board (map (λ p. k + p) (eleven ++ (11 ∷ 12 ∷ [])) ++ replicate 3 255) (k + 13) 255 255
 
 -- CS1 and CS2 as given, the other levels not given
-abbrev pub given : Level → Level → SdrrCsSet
-given c1 c2 = record { cs1 = c1; cs2 = c2; cs3 = Level.NotGiven; x1 = Level.NotGiven; x2 = Level.NotGiven }
+abbrev pub given : Option Bool → Option Bool → SdrrCsSet
+given c1 c2 = record { cs1 = c1; cs2 = c2; cs3 = None; x1 = None; x2 = None }
 
 -- address 5, CS1 high
-pub M1 : mangle_core (board2364 0) 1 SdrrRomType.Rom2364 5 (given Level.High Level.NotGiven) ≡ record { number = 0; value = 8197 }
+pub M1 : mangle_core (board2364 0) 1 SdrrRomType.Rom2364 5 (given (Some true) None) ≡ record { number = 0; value = 8197 }
 unfolding mangle_core mangle_of mangle_by mangle_number input_word raised drives rules_of gather taken_bit bit_at is_high rom_type_number pin_map map_of map_by map_number whole_map with_x with_address control_off with_control with_controls base_zero lowered_by least_pin least_of lowered
 M1 = refl
 
 -- all those pins raised by 8
-pub M2 : mangle_core (board2364 8) 1 SdrrRomType.Rom2364 5 (given Level.High Level.NotGiven) ≡ record { number = 0; value = 8197 }
+pub M2 : mangle_core (board2364 8) 1 SdrrRomType.Rom2364 5 (given (Some true) None) ≡ record { number = 0; value = 8197 }
 unfolding mangle_core mangle_of mangle_by mangle_number input_word raised drives rules_of gather taken_bit bit_at is_high rom_type_number pin_map map_of map_by map_number whole_map with_x with_address control_off with_control with_controls base_zero lowered_by least_pin least_of lowered
 M2 = refl
 
 -- address 8192
-pub M3 : mangle_core (board2364 0) 1 SdrrRomType.Rom2364 8192 (given Level.High Level.NotGiven) ≡ record { number = 77; value = 0 }
+pub M3 : mangle_core (board2364 0) 1 SdrrRomType.Rom2364 8192 (given (Some true) None) ≡ record { number = 77; value = 0 }
 unfolding mangle_core mangle_of mangle_by mangle_number rules_of pin_map map_of map_by map_number whole_map with_x with_address control_off with_control with_controls base_zero lowered_by least_pin least_of lowered
 M3 = refl
 
 -- address pins 0..10, CS2 11, CS3 12, CS1 13: address 0, CS2 high alone
-pub M4 : mangle_core (board (eleven ++ replicate 5 255) 13 11 12) 1 SdrrRomType.Rom2316 0 (given Level.NotGiven Level.High) ≡ record { number = 0; value = 4096 }
+pub M4 : mangle_core (board (eleven ++ replicate 5 255) 13 11 12) 1 SdrrRomType.Rom2316 0 (given None (Some true)) ≡ record { number = 0; value = 4096 }
 unfolding mangle_core mangle_of mangle_by mangle_number input_word raised drives rules_of gather taken_bit bit_at is_high rom_type_number pin_map map_of map_by map_number whole_map with_x with_address control_off with_control with_controls base_zero lowered_by least_pin least_of lowered
 M4 = refl

@@ -7,9 +7,12 @@ use Rattle.board.specs.declared.BoardPins.{BoardPins}
 use Rattle.demangle.specs.Bits.{gather}
 use Rattle.rom_rules.specs.Rules.{mangle_number}
 use Rattle.input_word.specs.Input.{levels, input_word}
-use Rattle.mangle.specs.declared.PinMap.{PinMap}
-use Rattle.mangle.specs.declared.Mangled.{Mangled}
-use Rattle.mangle.specs.PinMap.{pin_map}
+use Rattle.refusal.specs.Refusal.{Valued}
+use Rattle.mangle.specs.PinMap.{PinMap, pin_map}
+
+-- the mangled address, or a number with 0
+abbrev pub Mangled : Type 0
+Mangled = Valued
 
 -- a pin is high if the input bit that it takes is
 abbrev pub place : List ℕ → ℕ → ℕ

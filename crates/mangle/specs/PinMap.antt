@@ -6,7 +6,11 @@ use Rattle.board.specs.declared.BoardPins.{BoardPins}
 use Rattle.demangle.specs.Bits.{none, is_bit}
 use Rattle.base_zero.specs.BaseZero.{base_zero}
 use Rattle.rom_rules.specs.Rules.{rules_of, control_bits, several}
-use Rattle.mangle.specs.declared.PinMap.{PinMap}
+
+-- which input bit each of the sixteen pins takes, 255 for none; or a number, with no pin taking any
+pub record PinMap : Type 0 where
+  pub number : ℕ
+  pub map : List ℕ
 
 -- sixteen pins that take nothing
 abbrev pub unmapped : List ℕ

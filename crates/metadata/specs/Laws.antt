@@ -1,14 +1,17 @@
--- Metadata: a failed read is number 2; the record's refusals in order; only its first 256 bytes count.
+-- Metadata: a failed read is number 2; the record's refusals in order; only its first 256 bytes count; what a pointer gives.
 -- Assumes nothing.
 use Rattle.std.specs.Prelude.{ℕ, ◌≤◌, ◌<◌, ◌≡◌, true, false, ◌&&◌, List, ltb, eqb, length, take}
 use Rattle.std.proofs.Common.{arith}
 use borrow.Author.Tests.{lt-ltb, le-ltb, eq-eqb, ne_eqb}
 use Rattle.le.specs.Le.{u8_at, u32_at}
 use Rattle.magic.specs.Magic.{starts_with}
+use Rattle.refusal.specs.declared.Refusal.{Refusal}
+use Rattle.refusal.specs.Refusal.{number_of}
+use Rattle.window.specs.Window.{on_from, pointer_number}
+use Rattle.prog.specs.Prog.{run}
 use Rattle.prog.proofs.Laws.Honest.{Honest, honesty}
-use Rattle.prog.proofs.Laws.Record.{front_byte, front_short, front_starts}
-use Rattle.metadata.specs.declared.MetadataAnswer.{MetadataAnswer}
-use Rattle.metadata.specs.Metadata.{metadata_magic, refused_metadata, metadata_of, metadata_p}
+use Rattle.prog.proofs.Laws.Record.{front_byte, front_short, front_starts, pointer_refused, pointer_read}
+use Rattle.metadata.specs.Metadata.{MetadataAnswer, metadata_magic, refused_metadata, metadata_of, metadata_p}
 
 pub metadata_honest : (base pointer : ℕ) → Honest (λ (a : MetadataAnswer). a.number ≡ 2) (metadata_p base pointer)
 unfolding metadata_p
@@ -42,3 +45,13 @@ module _ (s : List ℕ) where
             → metadata_of s ≡ record { number = 0; rom_set_count = u8_at s 20; rom_sets_ptr = u32_at s 24 }
         unfolding metadata_of
         metadata_present h = rw (le-ltb (length s) 256 whole, m, eq-eqb (u32_at s 16) 1 v, h)
+
+-- at a pointer: refused, or the record of the image from there onward
+module _ (x : List ℕ) (base pointer : ℕ) where
+  pub metadata_pointer_refused : (r : Refusal) → number_of r ≡ pointer_number x base pointer 256 → refused_metadata (number_of r) ≡ run (metadata_p base pointer) x
+  unfolding metadata_p
+  metadata_pointer_refused = pointer_refused x base pointer 256 refused_metadata metadata_of metadata_front
+
+  pub metadata_pointer_read : 0 ≡ pointer_number x base pointer 256 → metadata_of (on_from x base pointer) ≡ run (metadata_p base pointer) x
+  unfolding metadata_p
+  metadata_pointer_read = pointer_read x base pointer 256 refused_metadata metadata_of metadata_front

@@ -1,17 +1,36 @@
 -- Document 01, "Metadata": 256 bytes.
-use Rattle.std.specs.Prelude.{ℕ, not, ◌&&◌, List, [], ◌∷◌, ltb, eqb, length}
+use Rattle.std.specs.Prelude.{ℕ, not, ◌&&◌, List, [], ◌∷◌, Option, Some, None, Result, Ok, Err, ltb, eqb, length}
 use Rattle.base.specs.Choice.{pick}
 use Rattle.le.specs.Le.{u8_at, u32_at}
 use Rattle.magic.specs.Magic.{starts_with}
+use Rattle.refusal.specs.declared.Refusal.{Refusal}
+use Rattle.refusal.specs.Refusal.{number_of, refused_number}
 use Rattle.prog.specs.Prog.{Prog, record_p}
-use Rattle.metadata.specs.declared.MetadataAnswer.{MetadataAnswer}
+use Rattle.metadata.specs.declared.OneRomMetadataHeader.{OneRomMetadataHeader}
+use Rattle.metadata.specs.declared.MetadataItem.{MetadataItem}
 
 -- "ONEROM_METADATA" and NUL
 abbrev pub metadata_magic : List ℕ
 metadata_magic = 79 ∷ 78 ∷ 69 ∷ 82 ∷ 79 ∷ 77 ∷ 95 ∷ 77 ∷ 69 ∷ 84 ∷ 65 ∷ 68 ∷ 65 ∷ 84 ∷ 65 ∷ 0 ∷ []
 
+-- 0 with the set count and the sets pointer, or the number of its refusal with zeros
+pub record MetadataAnswer : Type 0 where
+  pub number : ℕ
+  pub rom_set_count : ℕ
+  pub rom_sets_ptr : ℕ
+
 abbrev pub refused_metadata : ℕ → MetadataAnswer
 refused_metadata n = record { number = n; rom_set_count = 0; rom_sets_ptr = 0 }
+
+-- that answer of the code's result
+abbrev pub metadata_answer : Result OneRomMetadataHeader Refusal → MetadataAnswer
+metadata_answer (Ok m) = record { number = 0; rom_set_count = m.rom_set_count; rom_sets_ptr = m.rom_sets_ptr }
+metadata_answer (Err r) = refused_metadata (number_of r)
+
+-- the report's item of metadata that was looked for, or not
+abbrev pub metadata_shown : Option (Result Unit Refusal) → MetadataItem
+metadata_shown None = MetadataItem.NotLookedFor
+metadata_shown (Some r) = MetadataItem.Looked (refused_number r)
 
 -- version 16; set count 20 (a byte); sets pointer 24. Count 0 is present at any pointer.
 -- 2: ended. 30: magic. 31: version not 1. 32: count above 0, pointer 0.

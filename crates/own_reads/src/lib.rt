@@ -14,25 +14,24 @@ use types::SdrrCsSet;
 
 // A raw byte that was read, demangled: 79 counts nothing. 70 is not asked again, since a byte that was read had accepted pins. byte_reads' own
 // function is left to the old read: so in C's archive each has one caller, to which the compiler joins it.
-#[tactic(auto, unfolding(byte_reads::specs::Code::shown_from))]
+#[tactic(auto, using(demangle::specs::Refused::refused), unfolding(byte_reads::specs::Code::shown_from))]
 pub fn shown_own(data: [u8; 8], raw: ByteRead, count: u32) -> ByteRead
     ensures { result ≡ shown_from 0 «data» raw count }
 {
     if raw.number != 0 {
         return raw;
     }
-    let d = demangle::demangle_core(data, raw.byte);
-    if d.number != 0 {
-        return ByteRead {
-            number: d.number,
+    match demangle::demangle_core(data, raw.byte) {
+        Ok(byte) => ByteRead {
+            number: 0,
+            byte,
+            count: raw.count,
+        },
+        Err(refusal) => ByteRead {
+            number: refusal.number(),
             byte: 0,
             count,
-        };
-    }
-    ByteRead {
-        number: 0,
-        byte: d.value,
-        count: raw.count,
+        },
     }
 }
 

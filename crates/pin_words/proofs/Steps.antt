@@ -1,7 +1,12 @@
--- One step of the address pins.
+-- One step of the address pins, and one bit.
 -- Assumes nothing.
-use Prim.Native.Nat.{ℕ, suc, ◌≤◌, ◌<◌}
-use mathlib.Core.Path.{◌≡◌, sym}
+use Prim.Native.Nat.{ℕ, suc, ◌+◌, ◌*◌, ◌-◌, ◌≤◌, ◌<◌}
+use native.Mathlib.Omega.{arith}
+use mathlib.Core.Path.{◌≡◌, sym, ap, ◌∙◌}
+use mathlib.Core.Bool.{true, false}
+use Rattle.std.specs.Int.{from_bool}
+use Rattle.std.specs.Int.Bits.{bit_and, bit_or, bit_xor}
+use Rattle.pin_words.specs.Laws.{level_bits}
 use mathlib.Core.List.{List, map}
 use lib.ListN.{length, get_or, drop, drop_of_length-le}
 use lib.Seq.{drop-cons}
@@ -25,3 +30,11 @@ rest_step f ps w i s t h d = rw d (sym (rest_on_is f ps w i s h))
 pub rest_end : (f : ℕ → ℕ) (ps : List ℕ) (w i : ℕ) (s : Placed) → length ps ≤ i → rest_on f ps w i s ≡ s
 unfolding on_pins
 rest_end f ps w i s h = rw (drop_of_length-le ps h)
+
+-- ---- a bit set, then taken off where its level is low
+
+pub set_high : (v q : ℕ) → bit_xor (bit_or v q) 0 ≡ v - bit_and v q + from_bool true * q
+set_high v q = let z : 0 ≡ (1 - 1) * q = omega arith in ap (λ (x : ℕ). bit_xor (bit_or v q) x) z ∙ level_bits v q 1 (omega arith)
+
+pub set_low : (v q : ℕ) → bit_xor (bit_or v q) q ≡ v - bit_and v q + from_bool false * q
+set_low v q = let z : q ≡ (1 - 0) * q = omega arith in ap (λ (x : ℕ). bit_xor (bit_or v q) x) z ∙ level_bits v q 0 (omega arith)

@@ -1,7 +1,9 @@
 -- Document 01, "Pins": 88 bytes read.
-use Rattle.std.specs.Prelude.{ℕ, Bool, ◌||◌, List, [], ◌∷◌, ◌++◌, ltb, eqb, length}
+use Rattle.std.specs.Prelude.{ℕ, Bool, ◌||◌, List, [], ◌∷◌, ◌++◌, Result, Ok, Err, ltb, eqb, length}
 use Rattle.base.specs.Choice.{pick}
 use Rattle.le.specs.Le.{u8_at}
+use Rattle.refusal.specs.declared.Refusal.{Refusal}
+use Rattle.refusal.specs.Refusal.{number_of}
 use Rattle.runs.specs.Runs.{eight_at, sixteen_at}
 use Rattle.types.specs.declared.SdrrMcuPort.{SdrrMcuPort}
 use Rattle.types.specs.Types.{port_of}
@@ -91,6 +93,11 @@ no_pins =
 
 abbrev pub refused_pins : ℕ → PinsItem
 refused_pins n = record { number = n; pins = no_pins }
+
+-- that item of the code's result
+abbrev pub pins_item : Result SdrrPins Refusal → PinsItem
+pins_item (Ok p) = record { number = 0; pins = p }
+pins_item (Err r) = refused_pins (number_of r)
 
 -- each port is 0..5
 abbrev pub unknown_port : List ℕ → Bool

@@ -2,8 +2,9 @@
 #![tactic(auto)]
 
 ghost use Rattle.std.specs.Prelude.{◌≡◌};
-ghost use Rattle.pins.specs.Pins.{no_pins, refused_pins};
+ghost use Rattle.pins.specs.Pins.{no_pins, refused_pins, pins_item};
 
+use refusal::Refusal;
 use types::SdrrMcuPort;
 
 // All pin fields are numbers of physical pins, 255 where there is none; an array's index is the address or data line.
@@ -97,4 +98,14 @@ pub fn refuse(number: u8) -> PinsItem
 {
     let pins = no_pins();
     PinsItem { number, pins }
+}
+
+// The item of a result.
+pub fn pins_item(r: Result<SdrrPins, Refusal>) -> PinsItem
+    ensures { result ≡ pins_item r }
+{
+    match r {
+        Ok(pins) => PinsItem { number: 0, pins },
+        Err(refusal) => refuse(refusal.number()),
+    }
 }

@@ -2,10 +2,9 @@
 use Rattle.std.specs.Prelude.{ℕ, List, length}
 use Rattle.base.specs.Choice.{pick}
 use Rattle.text.specs.declared.Text.{Text}
-use Rattle.judge_walk.specs.declared.Walked.{Walked}
 use Rattle.walk.specs.Walk.{RomSet, Part, stop, found, roms_of}
 use Rattle.walk.specs.Rows.{set_rows_of, rom_rows_of, short_sets, short_roms, overwritten}
-pub use Rattle.judge_walk.specs.Code.{refused_walk}
+pub use Rattle.judge_walk.specs.Code.{Walked, refused_walk, walk_item}
 
 -- "Walk": only a walk otherwise accepted gives 44, then 45. The lengths of the lent rows are in words.
 unfoldable pub walk_reply : Part (List RomSet) → ℕ → ℕ → Walked

@@ -5,46 +5,34 @@ ghost use Rattle.std.specs.Prelude.{◌≡◌, length};
 ghost use Rattle.prog.specs.Prog.{run};
 ghost use Rattle.walk.specs.Walk.{walk_p};
 ghost use Rattle.walk.specs.Names.{walk_names_p};
-ghost use Rattle.rom_rows.specs.Reply.{refused_walk, walk_reply, walk_set_rows, walk_rom_rows};
+ghost use Rattle.rom_rows.specs.Reply.{walk_item, walk_reply, walk_set_rows, walk_rom_rows};
 
 use header::SdrrInfoFields;
-use judge_walk::Walked;
+use refusal::Refusal;
+use rows::{ROM_WORDS, SET_WORDS};
+use walk::WalkBy;
+use window::Window;
 
-fn refuse(number: u8) -> Walked
-    ensures { result ≡ refused_walk number }
-{
-    Walked {
-        number,
-        rom_count: 0,
-    }
-}
-
-// The walk's refusal, or 44, or 45, and no word is changed; or 0, and the rows are written.
+// How many ROMs the sets have, and the rows are written; or why the walk is refused, also for want of rows, and no word is changed.
 pub fn read_rom_sets(
-    image: &[u8],
-    base: u32,
+    w: Window,
     fields: SdrrInfoFields,
     count: u8,
     ptr: u32,
     set_rows: &mut [u32],
     rom_rows: &mut [u32],
-) -> Walked
-    ensures reply { result ≡ walk_reply (run (walk_p base fields count ptr) image.now) (length set_rows.old) (length rom_rows.old) }
-    ensures sets { set_rows.new ≡ walk_set_rows (run (walk_p base fields count ptr) image.now) (length rom_rows.old) set_rows.old }
-    ensures roms { rom_rows.new ≡ walk_rom_rows (run (walk_p base fields count ptr) image.now) (run (walk_names_p base (run (walk_p base fields count ptr) image.now)) image.now) (length set_rows.old) rom_rows.old }
+) -> Result<u32, Refusal>
+    ensures reply { walk_item result ≡ walk_reply (run (walk_p w.entry.base fields count ptr) w.entry.image.now) (length set_rows.old) (length rom_rows.old) }
+    ensures sets { set_rows.new ≡ walk_set_rows (run (walk_p w.entry.base fields count ptr) w.entry.image.now) (length rom_rows.old) set_rows.old }
+    ensures roms { rom_rows.new ≡ walk_rom_rows (run (walk_p w.entry.base fields count ptr) w.entry.image.now) (run (walk_names_p w.entry.base (run (walk_p w.entry.base fields count ptr) w.entry.image.now)) w.entry.image.now) (length set_rows.old) rom_rows.old }
 {
-    let judged = judge_walk::judge_rom_sets(image, base, fields, count, ptr);
-    if judged.number != 0 {
-        return judged;
+    let rom_count = judge_walk::judge_rom_sets(w, fields, count, ptr)?;
+    if set_rows.len() < SET_WORDS * count as usize {
+        return Err(Refusal::ShortSetRows);
     }
-    if set_rows.len() < rows::SET_WORDS * (count as usize) {
-        return refuse(44);
+    if rom_rows.len() < ROM_WORDS * rom_count as usize {
+        return Err(Refusal::ShortRomRows);
     }
-    if rom_rows.len() < rows::ROM_WORDS * (judged.rom_count as usize) {
-        return refuse(45);
-    }
-    let filenames = header::filenames_enabled(fields);
-    let long = version::from_0_6_0(fields.version);
-    write_rows::write_rom_sets(image, base, filenames, long, count, ptr, set_rows, rom_rows);
-    judged
+    write_rows::write_rom_sets(WalkBy::new(w, fields), count, ptr, set_rows, rom_rows);
+    Ok(rom_count)
 }

@@ -4,7 +4,19 @@ use Rattle.base.specs.Choice.{pick}
 use Rattle.type_numbers.specs.TypeNumbers.{rom_type_number}
 use Rattle.types.specs.declared.SdrrRomType.{SdrrRomType}
 use Rattle.demangle.specs.Bits.{none}
-use Rattle.rom_rules.specs.declared.TypeRules.{TypeRules}
+
+-- what mangling goes by for a type of ROM
+pub record TypeRules : Type 0 where
+  pub supported : Bool
+  pub mask : ℕ
+  pub cs1 : ℕ
+  pub cs2 : ℕ
+  pub cs3 : ℕ
+  pub oe : ℕ
+  pub ce : ℕ
+  pub by_cs1 : ℕ
+  pub by_cs2 : ℕ
+  pub by_cs3 : ℕ
 
 abbrev pub rules : (mask cs1 cs2 cs3 oe ce by1 by2 by3 : ℕ) → TypeRules
 rules m c1 c2 c3 o e b1 b2 b3 =

@@ -1,51 +1,13 @@
-// Runs of four, eight and sixteen bytes at an offset of a slice.
+// A run of bytes at an offset of a slice.
 #![tactic(auto)]
 
-ghost use Rattle.std.specs.Prelude.{◌≡◌, length, drop};
-ghost use Rattle.runs.specs.Runs.{four_at, eight_at, sixteen_at};
-ghost use Rattle.runs.specs.Code.{first_bytes};
+ghost use Rattle.std.specs.Prelude.{◌≡◌};
+ghost use Rattle.runs.specs.Runs.{bytes_at};
 
-// The part from at onward; past the end of s nothing.
-fn onward(s: &[u8], at: usize) -> &[u8]
-    ensures { result.now ≡ drop at s.now }
+// N bytes of s from at onward; a byte past the end counts as 0.
+pub fn bytes_at<const N: usize>(s: &[u8], at: usize) -> [u8; N]
+    ensures { result ≡ bytes_at s.now at N }
 {
-    if s.len() <= at {
-        return &s[..0];
-    }
-    &s[at..]
-}
-
-// Fills to with the first bytes of s.
-fn fill(to: &mut [u8], s: &[u8])
-    ensures { to.new ≡ first_bytes s.now (length to.old) }
-{
-    let mut i = 0;
-    while i < to.len() {
-        to[i] = le::u8_at(s, i);
-        i += 1;
-    }
-}
-
-pub fn four_at(s: &[u8], at: usize) -> [u8; 4]
-    ensures { result ≡ four_at s.now at }
-{
-    let mut run = [0; 4];
-    fill(&mut run, onward(s, at));
-    run
-}
-
-pub fn eight_at(s: &[u8], at: usize) -> [u8; 8]
-    ensures { result ≡ eight_at s.now at }
-{
-    let mut run = [0; 8];
-    fill(&mut run, onward(s, at));
-    run
-}
-
-pub fn sixteen_at(s: &[u8], at: usize) -> [u8; 16]
-    ensures { result ≡ sixteen_at s.now at }
-{
-    let mut run = [0; 16];
-    fill(&mut run, onward(s, at));
-    run
+    let part = s.get(at..).unwrap_or(&[]);
+    std::array::from_fn(|i| le::u8_at(part, i))
 }

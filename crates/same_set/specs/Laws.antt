@@ -2,8 +2,10 @@
 -- Assumes nothing.
 use Prim.Native.Nat.{ℕ, zero, suc, pred, ◌+◌, ◌-◌, ◌*◌, ◌≤◌, ◌<◌}
 use native.Mathlib.Omega.{arith}
-use Rattle.std.proofs.Common.{add-zero, mul-suc, sub-one, sym, ap, ◌∙◌, length-drop, drop-cons, drop_of_length-le}
-use Rattle.std.specs.Prelude.{◌≡◌, Bool, not, ◌||◌, List, ◌∷◌, get_or}
+use Rattle.std.proofs.Common.{add-zero, add-one, mul-suc, sub-one, sym, ap, ◌∙◌, length-drop, drop-cons, drop_of_length-le}
+use Rattle.std.specs.Prelude.{◌≡◌, Bool, not, ◌||◌, List, [], ◌∷◌, eqb, get_or}
+use Rattle.std.specs.List.{list_any, list_all, range_with_len}
+use Rattle.std.proofs.lemmas.List.{get_or_past}
 use Rattle.std.proofs.Math.Path.{refl}
 use Rattle.std.proofs.Math.Bool.{true, false}
 use Rattle.std.proofs.Math.Dec.{ltb}
@@ -30,31 +32,41 @@ module _ (words : List ℕ) (at left : ℕ) where
       go zero j = absurd (j refl)
       go (suc n) j = rw (after, sub-one (suc n))
 
-  pub above_found : at < length words → (left ≡ 0 → ⊥) → 33 < get_or words at 0 → true ≡ any_above33 (types_in (drop at words) left)
-  unfolding any_above33
-  above_found h i j = rw (types_cons h i, lt-ltb 33 (get_or words at 0) j)
+-- none past the end
+none_above : (n : ℕ) → any_above33 (types_in [] n) ≡ false
+unfolding any_above33 types_in
+none_above zero = refl
+none_above (suc n) = refl
 
-  pub above_next : at < length words → (left ≡ 0 → ⊥) → get_or words at 0 ≤ 33 → any_above33 (types_in (drop (at + rom_row_length) words) (left - 1)) ≡ any_above33 (types_in (drop at words) left)
-  unfolding any_above33
-  above_next h i j = rw (types_cons h i, le-ltb 33 (get_or words at 0) j)
-
-  pub above_none : left ≡ 0 → false ≡ any_above33 (types_in (drop at words) left)
+-- row by row, from one on: a word past the end is 0
+module _ (words : List ℕ) where
+  pub any_by_rows : (n row : ℕ) → list_any (λ k. ltb 33 (type_word words k)) (range_with_len row n) ≡ any_above33 (types_in (drop (rom_row_length * row) words) n)
   unfolding any_above33 types_in
-  above_none e = rw e
+  any_by_rows zero row = refl
+  any_by_rows (suc n) row =
+      let at = rom_row_length * row in
+      let some : suc n ≡ 0 → ⊥ = λ e. omega arith in
+      let next : at + rom_row_length ≡ rom_row_length * suc row = omega (arith, mul-suc rom_row_length row) in
+      let later = any_by_rows n (suc row) in
+      cases (ltb at (length words))
+      (λ e. rw (add-zero, add-one, types_cons words at (suc n) (ltb-true at (length words) e) some, next, sub-one, later))
+      (λ e.
+      let outside = ltb-false at (length words) e in
+      let past : length words ≤ rom_row_length * suc row = omega (arith, mul-suc rom_row_length row) in
+      rw (add-zero, add-one, get_or_past words at 0 outside, drop_of_length-le words outside, later, drop_of_length-le words past, none_above n))
 
-module _ (a b : List ℕ) (at left : ℕ) where
-  pub types_differ : at < length a → at < length b → (left ≡ 0 → ⊥) → (get_or a at 0 ≡ get_or b at 0 → ⊥) → false ≡ equal (types_in (drop at a) left) (types_in (drop at b) left)
-  unfolding equal
-  types_differ h i j e = rw (types_cons a at left h j, types_cons b at left i j, ne_eqb (get_or a at 0) (get_or b at 0) e)
-
-  pub types_next : at < length a → at < length b → (left ≡ 0 → ⊥) → get_or a at 0 ≡ get_or b at 0
-      → equal (types_in (drop (at + rom_row_length) a) (left - 1)) (types_in (drop (at + rom_row_length) b) (left - 1)) ≡ equal (types_in (drop at a) left) (types_in (drop at b) left)
-  unfolding equal
-  types_next h i j e = rw (types_cons a at left h j, types_cons b at left i j, eq-eqb (get_or a at 0) (get_or b at 0) e)
-
-  pub types_same : left ≡ 0 → true ≡ equal (types_in (drop at a) left) (types_in (drop at b) left)
+module _ (a b : List ℕ) where
+  pub same_by_rows : (n row : ℕ) → rom_row_length * row + rom_row_length * n ≤ length a → rom_row_length * row + rom_row_length * n ≤ length b
+      → list_all (λ k. eqb (type_word a k) (type_word b k)) (range_with_len row n) ≡ equal (types_in (drop (rom_row_length * row) a) n) (types_in (drop (rom_row_length * row) b) n)
   unfolding equal types_in
-  types_same e = rw e
+  same_by_rows zero row h i = refl
+  same_by_rows (suc n) row h i =
+      let at = rom_row_length * row in
+      let some : suc n ≡ 0 → ⊥ = λ e. omega arith in
+      let next : at + rom_row_length ≡ rom_row_length * suc row = omega (arith, mul-suc rom_row_length row) in
+      let c = mul-suc rom_row_length n in
+      let later = same_by_rows n (suc row) (omega arith) (omega arith) in
+      rw (add-zero, add-one, types_cons a at (suc n) (omega arith) some, types_cons b at (suc n) (omega arith) some, next, sub-one, later)
 
 -- ---- a set that can't be compared
 

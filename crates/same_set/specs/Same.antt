@@ -1,8 +1,9 @@
 -- Document 01, "Same set".
-use Rattle.std.specs.Prelude.{ℕ, zero, suc, pred, ◌+◌, ◌*◌, Bool, true, false, not, ◌&&◌, ◌||◌, List, [], ◌∷◌, ltb, leb, eqb, length, drop}
+use Rattle.std.specs.Prelude.{ℕ, zero, suc, pred, ◌+◌, ◌*◌, Bool, true, false, not, ◌&&◌, ◌||◌, List, [], ◌∷◌, ltb, leb, eqb, length, drop, Result, Ok, Err}
 use Rattle.base.specs.Choice.{pick}
 use Rattle.rows.specs.LentRows.{rom_row_length, has_set_row, first_rom, rom_count, size_of, serve_of}
-use Rattle.set_data.specs.declared.Valued.{Valued}
+use Rattle.refusal.specs.declared.Refusal.{Refusal}
+use Rattle.refusal.specs.Refusal.{Valued, number_of}
 use Rattle.set_data.specs.Data.{unvalued}
 
 -- the types of the first n ROM rows of some words, as far as these go
@@ -42,3 +43,8 @@ same_set served sets roms a b =
     pick (leb served a || leb served b) (unvalued 80)
     (pick (bad_set sets roms a || bad_set sets roms b) (unvalued 4)
     (record { number = 0; value = pick (equal (compared sets roms a) (compared sets roms b)) 1 0 }))
+
+-- what the code answers, as a number and a value
+abbrev pub same_item : Result Bool Refusal → Valued
+same_item (Ok same) = record { number = 0; value = pick same 1 0 }
+same_item (Err r) = unvalued (number_of r)

@@ -3,7 +3,7 @@ use Rattle.std.specs.Prelude.{ℕ, ◌+◌, not, List, [], ltb, eqb}
 use Rattle.base.specs.Choice.{pick}
 use Rattle.prog.specs.Prog.{Prog, done, fetch}
 use Rattle.rows.specs.LentRows.{data_pointer, size_of, set_number}
-use Rattle.set_data.specs.declared.Valued.{Valued}
+use Rattle.refusal.specs.Refusal.{Valued}
 
 -- ---- size
 

@@ -5,22 +5,25 @@
 ghost use Rattle.std.specs.Prelude.{◌≡◌, ◌+◌, ◌≤◌};
 ghost use Rattle.set_header.specs.SetHeader.{info_pointer, pointed, config_of, overrides_of, stride_of};
 
+use window::Window;
+
 // The pointer in an entry of the table.
-pub fn info_ptr(image: &[u8], base: u32, entry: u64) -> u32
-    ensures { result ≡ info_pointer image.now base entry }
+pub fn info_ptr(w: Window, entry: u64) -> u32
+    ensures { result ≡ info_pointer w.entry.image.now w.entry.base entry }
 {
-    le::u32_at(window::image_from(image, base, entry), 0)
+    le::u32_at(w.part_from(entry), 0)
 }
 
-// A pointer that counts and is there, or 0.
+// A pointer that counts and is there, or 0, which in a row's word, as C sees it, says that there is none.
 #[tactic(auto, unfolding(crate::specs::SetHeader::pointed))]
 fn pointed_at(counts: bool, ptr: u32) -> u32
     ensures { result ≡ pointed counts ptr }
 {
-    if base::both(counts, base::both(ptr != 0, ptr != 4294967295)) {
-        return ptr;
+    if counts && ptr != 0 && ptr != 4294967295 {
+        ptr
+    } else {
+        0
     }
-    0
 }
 
 pub fn serve_config(s: &[u8]) -> u32
@@ -39,10 +42,11 @@ pub fn firmware_overrides(s: &[u8]) -> u32
 pub fn set_stride(long: bool, s: &[u8]) -> u64
     ensures { result ≡ stride_of long s.now }
 {
-    if base::both(long, le::u8_at(s, 15) == 1) {
-        return 64;
+    if long && le::u8_at(s, 15) == 1 {
+        64
+    } else {
+        16
     }
-    16
 }
 
 // The running total once a set is taken on: its count of ROMs is added to what the earlier sets have. No board has more than 65,025 ROMs.

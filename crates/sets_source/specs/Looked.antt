@@ -4,9 +4,8 @@ use Rattle.base.specs.Choice.{pick}
 use Rattle.prog.specs.Prog.{Prog, done, map_p}
 use Rattle.header.specs.declared.SdrrInfoHeader.{SdrrInfoHeader}
 use Rattle.version.specs.Version.{from050}
-use Rattle.metadata.specs.declared.MetadataAnswer.{MetadataAnswer}
 use Rattle.metadata.specs.declared.MetadataItem.{MetadataItem}
-use Rattle.metadata.specs.Metadata.{metadata_p}
+use Rattle.metadata.specs.Metadata.{MetadataAnswer, metadata_p}
 
 -- metadata: not looked for, or looked for with its answer
 pub data Looked : Type 0 where

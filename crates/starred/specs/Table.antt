@@ -16,9 +16,8 @@ use Rattle.least_pin.specs.LeastPin.{least_of, least_pin}
 use Rattle.base_zero.specs.BaseZero.{lowered, lowered_by, base_zero}
 use Rattle.rom_rules.specs.Rules.{rules_of, drives, mangle_number}
 use Rattle.input_word.specs.Input.{raised, input_word}
-use Rattle.mangle.specs.declared.Mangled.{Mangled}
 use Rattle.mangle.specs.PinMap.{with_address, with_x, control_off, with_control, with_controls, map_number, whole_map, map_by, map_of, pin_map}
-use Rattle.mangle.specs.Mangle.{mangle_by, mangle_of, mangle_core}
+use Rattle.mangle.specs.Mangle.{Mangled, mangle_by, mangle_of, mangle_core}
 use Rattle.governing.specs.Governing.{governing, governing_set0}
 use Rattle.info.specs.Lent.{mangled_by, mangle_address, demangle_byte}
 use Rattle.c_board.specs.Board.{pins_from}

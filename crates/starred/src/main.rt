@@ -2,45 +2,38 @@
 // What a call is lent holds 9 throughout, so that it shows what was written and what was left.
 #![tactic(auto)]
 
-ghost use Rattle.std.specs.Prelude.{◌≡◌, [], ◌∷◌};
+ghost use Rattle.std.specs.Prelude.{◌≡◌, ◌∷◌};
 ghost use Rattle.starred.specs.Table.{of_record, of_string, of_byte, of_address, expected};
 ghost use Rattle.starred.specs.Table.Case.{R1, R2, R3, R4, T1, T2, T3, D1, D2, M1, M2, M3};
 
-use std::io;
+use std::{fmt, io};
 
+// A call's number, and the words that it was lent as it leaves them.
 #[derive(Clone, Copy)]
-struct RuntimeAnswer {
+struct Answer<const N: usize> {
     number: u32,
-    words: [u32; 25],
+    words: [u32; N],
 }
 
-#[derive(Clone, Copy)]
-struct StringAnswer {
-    number: u32,
-    part: [u32; text::PART_WORDS],
+impl<const N: usize> fmt::Display for Answer<N> {
+    fn fmt<W: fmt::Write>(&self, f: &mut fmt::Formatter<W>) -> fmt::Result {
+        write!(f, "{}", self.number)?;
+        for word in &self.words {
+            write!(f, " {word}")?;
+        }
+        Ok(())
+    }
 }
 
-#[derive(Clone, Copy)]
-struct ByteAnswer {
-    number: u32,
-    value: u8,
-}
-
-#[derive(Clone, Copy)]
-struct AddressAnswer {
-    number: u32,
-    value: u32,
-}
-
-fn record_answer(record: &[u8]) -> RuntimeAnswer
+fn record_answer(record: &[u8]) -> Answer<25>
     ensures { (result.number ∷ result.words) ≡ of_record «record».now }
 {
     let mut words = [9u32; 25];
     let number = onerom::onerom_runtime(record, 536870912, &mut words);
-    RuntimeAnswer { number, words }
+    Answer { number, words }
 }
 
-fn case_r1() -> RuntimeAnswer
+fn case_r1() -> Answer<25>
     ensures { (result.number ∷ result.words) ≡ expected R1 }
 {
     record_answer(
@@ -48,7 +41,7 @@ fn case_r1() -> RuntimeAnswer
     )
 }
 
-fn case_r2() -> RuntimeAnswer
+fn case_r2() -> Answer<25>
     ensures { (result.number ∷ result.words) ≡ expected R2 }
 {
     record_answer(
@@ -56,7 +49,7 @@ fn case_r2() -> RuntimeAnswer
     )
 }
 
-fn case_r3() -> RuntimeAnswer
+fn case_r3() -> Answer<25>
     ensures { (result.number ∷ result.words) ≡ expected R3 }
 {
     record_answer(
@@ -64,7 +57,7 @@ fn case_r3() -> RuntimeAnswer
     )
 }
 
-fn case_r4() -> RuntimeAnswer
+fn case_r4() -> Answer<25>
     ensures { (result.number ∷ result.words) ≡ expected R4 }
 {
     record_answer(
@@ -72,32 +65,32 @@ fn case_r4() -> RuntimeAnswer
     )
 }
 
-fn string_answer(image: &[u8]) -> StringAnswer
-    ensures { (result.number ∷ result.part) ≡ of_string image.now }
+fn string_answer(image: &[u8]) -> Answer<{ text::PART_WORDS }>
+    ensures { (result.number ∷ result.words) ≡ of_string image.now }
 {
-    let mut part = [9u32; text::PART_WORDS];
-    let number = onerom::onerom_string(image, 134217728, 134217728, &mut part);
-    StringAnswer { number, part }
+    let mut words = [9u32; text::PART_WORDS];
+    let number = onerom::onerom_string(image, 134217728, 134217728, &mut words);
+    Answer { number, words }
 }
 
-fn case_t1() -> StringAnswer
-    ensures { (result.number ∷ result.part) ≡ expected T1 }
+fn case_t1() -> Answer<{ text::PART_WORDS }>
+    ensures { (result.number ∷ result.words) ≡ expected T1 }
 {
     let mut image = [0u8; 64];
     image[0] = 65;
     string_answer(&image)
 }
 
-fn case_t2() -> StringAnswer
-    ensures { (result.number ∷ result.part) ≡ expected T2 }
+fn case_t2() -> Answer<{ text::PART_WORDS }>
+    ensures { (result.number ∷ result.words) ≡ expected T2 }
 {
     let mut image = [0u8; 63];
     image[0] = 65;
     string_answer(&image)
 }
 
-fn case_t3() -> StringAnswer
-    ensures { (result.number ∷ result.part) ≡ expected T3 }
+fn case_t3() -> Answer<{ text::PART_WORDS }>
+    ensures { (result.number ∷ result.words) ≡ expected T3 }
 {
     let mut image = [0u8; 64];
     image[0] = 0xC0;
@@ -105,31 +98,34 @@ fn case_t3() -> StringAnswer
     string_answer(&image)
 }
 
-fn byte_answer(data: &[u8; 8]) -> ByteAnswer
-    ensures { (result.number ∷ result.value ∷ []) ≡ of_byte «data».now }
+fn byte_answer(data: &[u8; 8]) -> Answer<1>
+    ensures { (result.number ∷ result.words) ≡ of_byte «data».now }
 {
     let mut value = 9u8;
     let number = onerom::onerom_demangle(0, data, 1, &mut value);
-    ByteAnswer { number, value }
+    Answer {
+        number,
+        words: [value as u32],
+    }
 }
 
-fn case_d1() -> ByteAnswer
-    ensures { (result.number ∷ result.value ∷ []) ≡ expected D1 }
+fn case_d1() -> Answer<1>
+    ensures { (result.number ∷ result.words) ≡ expected D1 }
 {
     let data = [7u8, 6, 5, 4, 3, 2, 1, 0];
     byte_answer(&data)
 }
 
-fn case_d2() -> ByteAnswer
-    ensures { (result.number ∷ result.value ∷ []) ≡ expected D2 }
+fn case_d2() -> Answer<1>
+    ensures { (result.number ∷ result.words) ≡ expected D2 }
 {
     let data = [7u8, 6, 5, 8, 3, 2, 1, 0];
     byte_answer(&data)
 }
 
 // One set with one ROM, a 2364; CS1 high.
-fn address_answer(addr: &[u8; 16], cs1: u8, address: u32) -> AddressAnswer
-    ensures { (result.number ∷ result.value ∷ []) ≡ of_address addr.now cs1 address }
+fn address_answer(addr: &[u8; 16], cs1: u8, address: u32) -> Answer<1>
+    ensures { (result.number ∷ result.words) ≡ of_address addr.now cs1 address }
 {
     let control = [cs1, 255, 255, 255, 255, 255, 255];
     let set_row = [0u32, 0, 0, 1, 0, 0, 0, 0];
@@ -139,18 +135,21 @@ fn address_answer(addr: &[u8; 16], cs1: u8, address: u32) -> AddressAnswer
     let number = onerom::onerom_mangle(
         0, 24, addr, &control, 1, &set_row, &rom_row, address, &levels, &mut value,
     );
-    AddressAnswer { number, value }
+    Answer {
+        number,
+        words: [value],
+    }
 }
 
-fn case_m1() -> AddressAnswer
-    ensures { (result.number ∷ result.value ∷ []) ≡ expected M1 }
+fn case_m1() -> Answer<1>
+    ensures { (result.number ∷ result.words) ≡ expected M1 }
 {
     let addr = [0u8, 1, 2, 3, 4, 5, 6, 7, 8, 9, 10, 11, 12, 255, 255, 255];
     address_answer(&addr, 13, 5)
 }
 
-fn case_m2() -> AddressAnswer
-    ensures { (result.number ∷ result.value ∷ []) ≡ expected M2 }
+fn case_m2() -> Answer<1>
+    ensures { (result.number ∷ result.words) ≡ expected M2 }
 {
     let addr = [
         8u8, 9, 10, 11, 12, 13, 14, 15, 16, 17, 18, 19, 20, 255, 255, 255,
@@ -158,51 +157,24 @@ fn case_m2() -> AddressAnswer
     address_answer(&addr, 21, 5)
 }
 
-fn case_m3() -> AddressAnswer
-    ensures { (result.number ∷ result.value ∷ []) ≡ expected M3 }
+fn case_m3() -> Answer<1>
+    ensures { (result.number ∷ result.words) ≡ expected M3 }
 {
     let addr = [0u8, 1, 2, 3, 4, 5, 6, 7, 8, 9, 10, 11, 12, 255, 255, 255];
     address_answer(&addr, 13, 8192)
 }
 
-fn print_words(rt: &impl Print, words: &[u32]) -> io::Result<()> {
-    for word in words {
-        print!(rt; " {word}")?;
-    }
-    println!(rt)
-}
-
-fn print_runtime(rt: &impl Print, name: &str, a: RuntimeAnswer) -> io::Result<()> {
-    print!(rt; "{name} {}", a.number)?;
-    let words = a.words;
-    print_words(rt, &words)
-}
-
-fn print_text(rt: &impl Print, name: &str, t: StringAnswer) -> io::Result<()> {
-    print!(rt; "{name} {}", t.number)?;
-    let part = t.part;
-    print_words(rt, &part)
-}
-
-fn print_byte(rt: &impl Print, name: &str, d: ByteAnswer) -> io::Result<()> {
-    println!(rt; "{name} {} {}", d.number, d.value)
-}
-
-fn print_address(rt: &impl Print, name: &str, m: AddressAnswer) -> io::Result<()> {
-    println!(rt; "{name} {} {}", m.number, m.value)
-}
-
 fn main(rt: HostRuntime) -> io::Result<()> {
-    print_runtime(&rt, "R1", case_r1())?;
-    print_runtime(&rt, "R2", case_r2())?;
-    print_runtime(&rt, "R3", case_r3())?;
-    print_runtime(&rt, "R4", case_r4())?;
-    print_text(&rt, "T1", case_t1())?;
-    print_text(&rt, "T2", case_t2())?;
-    print_text(&rt, "T3", case_t3())?;
-    print_byte(&rt, "D1", case_d1())?;
-    print_byte(&rt, "D2", case_d2())?;
-    print_address(&rt, "M1", case_m1())?;
-    print_address(&rt, "M2", case_m2())?;
-    print_address(&rt, "M3", case_m3())
+    println!(rt; "R1 {}", case_r1())?;
+    println!(rt; "R2 {}", case_r2())?;
+    println!(rt; "R3 {}", case_r3())?;
+    println!(rt; "R4 {}", case_r4())?;
+    println!(rt; "T1 {}", case_t1())?;
+    println!(rt; "T2 {}", case_t2())?;
+    println!(rt; "T3 {}", case_t3())?;
+    println!(rt; "D1 {}", case_d1())?;
+    println!(rt; "D2 {}", case_d2())?;
+    println!(rt; "M1 {}", case_m1())?;
+    println!(rt; "M2 {}", case_m2())?;
+    println!(rt; "M3 {}", case_m3())
 }

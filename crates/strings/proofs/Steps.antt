@@ -1,85 +1,72 @@
 -- What the code's tests say of the definitions, step by step.
 -- Assumes nothing.
-use Prim.Native.Nat.{ℕ, suc, ◌+◌, ◌-◌, ◌≤◌, ◌<◌}
-use native.Mathlib.Omega.{arith}
-use native.Mathlib.Nat.{add-zero}
-use native.Mathlib.Numerals.{add-one}
-use mathlib.Core.Path.{◌≡◌, refl, ap, sym, ◌∙◌}
-use mathlib.Core.Bool.{true, false, ◌||◌}
-use mathlib.Core.List.{List}
-use lib.Dec.{ltb, eqb}
-use lib.ListN.{length, get_or, take, drop, length-drop, drop_of_length-le}
-use lib.Seq.{drop-cons, take-take, length-take-le}
+use Rattle.std.specs.Prelude.{ℕ, ◌+◌, ◌-◌, ◌≤◌, ◌<◌, ◌≡◌, refl, true, ◌||◌, List, ◌∷◌, Some, ◌==◌, eqb, ltb, nat_lt, cond, length, get_or, take, drop, position, slice_range}
+use Rattle.std.specs.List.{position_or_len}
+use Rattle.std.proofs.Common.{arith, ap, sym, ◌∙◌}
+use Rattle.std.proofs.Math.Nat.{add-zero}
+use Rattle.std.proofs.Math.ListN.{length-drop}
+use Rattle.std.proofs.Math.Seq.{take-take, length-take-le}
+use Rattle.std.proofs.lemmas.List.Recursion.{is_position_or_len}
+use Rattle.std.proofs.lemmas.List.Quantifiers.{position-Some}
+use Rattle.base.specs.Laws.{cases, clash}
 use Rattle.window.specs.Window.{can_read}
-use Rattle.window.specs.Laws.{true_inside, part, part_at}
+use Rattle.window.specs.Laws.{inside_true, part}
 use Rattle.prog.specs.Prog.{run}
 use Rattle.utf8.specs.Utf8.{is_utf8}
 use Rattle.utf8.specs.Points.{points}
-use Rattle.text.specs.Text.{accepted_text, bytes_of, before_nul, judged, text_p}
-use Rattle.text.proofs.Laws.Nul.{before_front}
-use Rattle.text.proofs.Laws.Chunks.{text_accepted}
-use Rattle.text.specs.declared.Text.{Text as Str}
-use Rattle.chunks.proofs.Steps.{judged_good, rest_start, rest_judged}
+use Rattle.text.specs.Text.{accepted_text, has_nul, before_nul, judged, text_p}
+use Rattle.text.proofs.Laws.Nul.{before_front, before_all}
+use Rattle.text.proofs.Laws.Chunks.{chunk_after, text_start, chunks_found}
 use Rattle.strings.specs.Code.{ascii_front}
 use Rattle.strings.specs.Laws.Ascii.{ascii_utf8, ascii_points, ascii_before}
 
--- the part handed back for an accepted string makes it whole, with its width
-pub made_whole : (x : List ℕ) (base pointer : ℕ) (bytes : List ℕ) → bytes ≡ bytes_of x (run (text_p base pointer) x) → (run (text_p base pointer) x).number ≡ 0
-    → (w : ℕ) → w ≡ (run (text_p base pointer) x).width → accepted_text (pointer - base) (length bytes) w ≡ run (text_p base pointer) x
-made_whole x base pointer bytes e h w f =
-    let t = run (text_p base pointer) x in
-    let a = text_accepted x base pointer h in
-    let l : length bytes ≡ t.length = ap length e ∙ length-take-le t.length (drop t.offset x) (simp length-drop (let i = a.inside in omega arith)) in
-    ap (λ (n : ℕ). record { number = n; offset = pointer - base; length = length bytes; width = w }) (sym h)
-    ∙ ap (λ (o : ℕ). record { number = t.number; offset = o; length = length bytes; width = w }) (sym a.starts)
-    ∙ ap (λ (n : ℕ). record { number = t.number; offset = t.offset; length = n; width = w }) l
-    ∙ ap (λ (n : ℕ). record { number = t.number; offset = t.offset; length = t.length; width = n }) f
+-- the first byte that is NUL or no ASCII, as the code looks for it, stands where the ASCII front ends
+front_step : (b : ℕ) (s : List ℕ) → length (ascii_front (b ∷ s)) ≡ cond (b == 0 || nat_lt 127 b) 0 (1 + length (ascii_front s))
+unfolding ascii_front
+front_step b s = cases (eqb b 0 || ltb 127 b) (λ e. rw e) (λ e. rw e (omega arith))
 
--- it is short, and its pointer is not below base
-pub part_short : (x : List ℕ) (base pointer : ℕ) (bytes : List ℕ) → bytes ≡ bytes_of x (run (text_p base pointer) x) → (run (text_p base pointer) x).number ≡ 0
-    → (base ≤ pointer) × (length bytes < 1024)
-part_short x base pointer bytes e h =
-    let a = text_accepted x base pointer h in
-    let s = a.short in
-    let l = ap (λ (t : Str). t.length) (made_whole x base pointer bytes e h _ refl) in
-    (a.from, omega arith)
+pub front_counted : (s : List ℕ) → length (ascii_front s) ≡ position_or_len (λ b. b == 0 || nat_lt 127 b) s
+unfolding ascii_front
+front_counted s = is_position_or_len (λ (t : List ℕ). length (ascii_front t)) (λ b. b == 0 || nat_lt 127 b) refl front_step s
 
--- the search for the end of the ASCII front: where it ends, where it finds a byte that is none, and where it goes on
-module _ (s : List ℕ) (i : ℕ) where
-  pub ascii_end : length s ≤ i → length (ascii_front (drop i s)) ≡ 0
-  unfolding ascii_front
-  ascii_end h = rw (drop_of_length-le s h)
+-- where the code found such a byte
+front_found : (s : List ℕ) (n : ℕ) → position (λ b. b == 0 || nat_lt 127 b) s ≡ Some n → n ≡ length (ascii_front s)
+front_found s n e =
+    cases (ltb (position_or_len (λ b. b == 0 || nat_lt 127 b) s) (length s))
+    (λ f. cc (rw f at e, front_counted s))
+    (λ f. clash (cc (rw f at e)))
 
-  pub ascii_here : i < length s → (eqb (get_or s i 0) 0 || ltb 127 (get_or s i 0)) ≡ true → length (ascii_front (drop i s)) ≡ 0
-  unfolding ascii_front
-  ascii_here h e = rw (drop-cons s i 0 h, e)
+-- bytes that are UTF-8, each a character
+judged_ascii : (offset : ℕ) (s : List ℕ) → is_utf8 s ≡ true → points s ≡ length s → judged offset s ≡ accepted_text offset (length s) (length s)
+unfolding judged
+judged_ascii offset s e f = rw (e, f)
 
-  pub ascii_further : i < length s → (eqb (get_or s i 0) 0 || ltb 127 (get_or s i 0)) ≡ false → length (ascii_front (drop i s)) ≡ suc (length (ascii_front (drop (i + 1) s)))
-  unfolding ascii_front
-  ascii_further h e = rw (drop-cons s i 0 h, e, add-one)
+-- a string that is ASCII and ends in its first chunk
+module _ (x : List ℕ) (base pointer : ℕ) (from : base ≤ pointer) (word : pointer ≤ 4294967295) (upto : pointer - base + 64 ≤ length x) where
+  abbrev chunk : List ℕ
+  chunk = take 64 (drop (pointer - base) x)
 
--- a string that is ASCII and ends in its first chunk, as the code has found it
-module _ (x : List ℕ) (base pointer : ℕ) (from : base ≤ pointer) (e : can_read x base pointer 64 ≡ true)
-    (n : ℕ) (count : n ≡ length (ascii_front (take (pointer - base + 64 - (pointer - base)) (drop (pointer - base) x)))) (short : n < 64) where
-  chunk_fits : pointer - base + 64 ≤ length x
-  chunk_fits = let i = true_inside x base pointer 64 e in omega arith
+  full : length chunk ≡ 64
+  full = length-take-le 64 (drop (pointer - base) x) (simp length-drop (omega arith))
 
-  front : n ≡ length (ascii_front (take 64 (drop (pointer - base) x)))
-  front = count ∙ ap (λ (s : List ℕ). length (ascii_front s)) (part (pointer - base) 64 x)
-
-  pub short_told : get_or x (pointer - base + n) 0 ≡ 0 → accepted_text (pointer - base) n n ≡ run (text_p base pointer) x
-  short_told z =
+  told : (n : ℕ) → n ≡ length (ascii_front chunk) → n < 64 → get_or chunk n 0 ≡ 0 → accepted_text (pointer - base) n n ≡ run (text_p base pointer) x
+  told n count short z =
       let o = pointer - base in
-      let chunk = take 64 (drop o x) in
-      let full : length chunk ≡ 64 = length-take-le 64 (drop o x) (simp length-drop (let i = chunk_fits in omega arith)) in
-      let ends : get_or chunk (length (ascii_front chunk)) 0 ≡ 0 = rw (← front) (part_at o 64 x n short ∙ z) in
-      let same : before_nul chunk ≡ ascii_front chunk = ascii_before chunk (omega (arith, front)) ends in
-      let found : n ≡ length (before_nul chunk) = front ∙ ap length (sym same) in
-      let held : take n (drop o x) ≡ ascii_front chunk =
-      sym (take-take n 64 (drop o x) (omega arith)) ∙ rw found (sym (before_front chunk)) ∙ same in
-      let good : true ≡ is_utf8 (take (o + n - o) (drop o x)) = sym (ap is_utf8 (part o n x ∙ held) ∙ ascii_utf8 chunk) in
-      let wide : n ≡ points (take (o + n - o) (drop o x)) = front ∙ sym (ap points (part o n x ∙ held) ∙ ascii_points chunk) in
-      ap (accepted_text o n) wide
-      ∙ sym (judged_good x o n (let i = chunk_fits in omega arith) good)
-      ∙ ap (λ (k : ℕ). judged o (take k (drop o x))) (let q : n ≡ 0 + n = omega arith in q)
-      ∙ rest_judged x base pointer 0 (rest_start x base pointer from) (omega arith) (rw (add-zero pointer) e) n (rw (add-zero o) (found ∙ ap (λ (s : List ℕ). length (before_nul s)) (sym (part o 64 x)))) short
+      let readable : can_read x base pointer 64 ≡ true = inside_true x base pointer 64 (record { from = from; word = word; upto = omega arith }) in
+      let same : before_nul chunk ≡ ascii_front chunk = ascii_before chunk (omega (arith, count, full)) (rw count at z) in
+      let nul : has_nul chunk ≡ true = cases (has_nul chunk) (λ f. f) (λ f. absurd (omega (arith, count, full, ap length same, ap length (before_all chunk f)))) in
+      let held : take n (drop o x) ≡ ascii_front chunk = rw (← same) (rw (before_front chunk) (rw same (rw (← count) (sym (take-take n 64 (drop o x) (omega arith)))))) in
+      let here : chunk_after x base pointer 0 ≡ chunk = rw add-zero refl in
+      let w : 0 + length (before_nul (chunk_after x base pointer 0)) ≡ n = rw (here, same) (omega (arith, count)) in
+      let j = judged_ascii o (ascii_front chunk) (ascii_utf8 chunk) (ascii_points chunk) in
+      sym (text_start x base pointer from
+      ∙ chunks_found x base pointer 15 0 from (rw (add-zero pointer) readable) (rw here nul)
+      ∙ rw (w, held) (rw (← count) at j))
+
+  -- as the code has found it
+  pub short_told : (part : List ℕ) → part ≡ slice_range x (pointer - base) (pointer - base + 64) → (n : ℕ) → position (λ b. b == 0 || nat_lt 127 b) part ≡ Some n
+      → get_or part n 0 ≡ 0 → accepted_text (pointer - base) n n ≡ run (text_p base pointer) x
+  short_told p e n found z =
+      let same : p ≡ chunk = e ∙ part (pointer - base) 64 x in
+      let at = position-Some (λ b. b == 0 || nat_lt 127 b) chunk n 0 (rw same at found) in
+      told n (front_found chunk n (rw same at found)) (omega (arith, at.0, full)) (rw same at z)

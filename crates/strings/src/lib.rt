@@ -1,94 +1,49 @@
-// The string at a pointer as a report or a row holds it (lib.rs `read_string_at_ptr`), and the quick way for most.
+// The string at a pointer (lib.rs `read_string_at_ptr`), and the quick way for most.
 #![tactic(auto)]
 
-ghost use Rattle.std.specs.Prelude.{◌≡◌, length};
+ghost use Rattle.std.specs.Prelude.{◌≡◌, ◌==◌, ◌||◌, nat_lt, position, IfSome, Ok};
 ghost use Rattle.prog.specs.Prog.{run};
-ghost use Rattle.text.specs.Text.{refused_text, text_p};
-ghost use Rattle.strings.specs.Code.{ascii_front, ShortAscii};
+ghost use Rattle.text.specs.Text.{text_item, text_p};
 
 use chunks::CHUNK;
-use text::Text;
+use refusal::Refusal;
+use text::TextPart;
+use window::Window;
 
-// How many bytes at the front are ASCII other than NUL.
-fn ascii_front(s: &[u8]) -> usize
-    ensures { result ≡ length (ascii_front s.now) }
+// Where the first byte stands that is NUL or no ASCII.
+fn ascii_end(s: &[u8]) -> Option<usize>
+    ensures { result ≡ position (λ b. b == 0 || nat_lt 127 b) s.now }
 {
-    let mut i = 0;
-    while i < s.len() {
-        if base::either(s[i] == 0, 127 < s[i]) {
-            return i;
-        }
-        i += 1;
-    }
-    i
+    s.iter().position(|&b| b == 0 || 127 < b)
 }
 
-// The length of a string that is ASCII and ends in its first chunk, as most do: it is its width too, and its bytes need no second look. A
-// chunk's length for any other.
-fn short_ascii(image: &[u8], base: u32, ptr: u32) -> usize
-    ensures { ShortAscii image.now base ptr result }
+// A string that is ASCII and ends in its first chunk, as most do: its length is its width too, and its bytes need no second look.
+#[inline(always)]
+fn short_ascii(w: Window, ptr: u32) -> Option<TextPart>
+    ensures { IfSome result (λ t. text_item (Ok t) ≡ run (text_p w.entry.base ptr) w.entry.image.now) }
 {
-    if ptr < base {
-        return CHUNK;
+    let offset = ptr.checked_sub(w.base)?;
+    let from = offset as usize;
+    let chunk = w.image.get(from..from + CHUNK)?;
+    let n = ascii_end(chunk)?;
+    if chunk[n] != 0 {
+        return None;
     }
-    if !window::can_read(image, base, ptr as u64, CHUNK) {
-        return CHUNK;
-    }
-    let offset = (ptr - base) as usize;
-    let n = ascii_front(&image[offset..offset + CHUNK]);
-    if CHUNK <= n {
-        return CHUNK;
-    }
-    if image[offset + n] != 0 {
-        return CHUNK;
-    }
-    n
+    let length = n as u32;
+    Some(TextPart {
+        offset,
+        length,
+        width: length,
+    })
 }
 
-fn refuse(number: u8) -> Text
-    ensures { result ≡ refused_text number }
+// The string at a pointer: where its part stands in the image. Joined to its callers, so that the quick way stores no window and no answer.
+#[inline(always)]
+pub fn read_string_at_ptr(w: Window, ptr: u32) -> Result<TextPart, Refusal>
+    ensures { text_item result ≡ run (text_p w.entry.base ptr) w.entry.image.now }
 {
-    Text {
-        number,
-        offset: 0,
-        length: 0,
-        width: 0,
+    match short_ascii(w, ptr) {
+        Some(part) => Ok(part),
+        None => chunks::read_string(w, ptr),
     }
-}
-
-// Any string, as a report or a row holds it. By itself, so that the quick way pays nothing for it.
-#[inline(never)]
-fn read_any_string(image: &[u8], base: u32, ptr: u32) -> Text
-    ensures { result ≡ run (text_p base ptr) image.now }
-{
-    let mut number = 0;
-    let mut width = 0;
-    let part = chunks::read_string(image, base, ptr, &mut number, &mut width);
-    if number != 0 {
-        return refuse(number);
-    }
-    Text {
-        number: 0,
-        offset: ptr - base,
-        length: part.len() as u32,
-        width,
-    }
-}
-
-// The string at a pointer as a report or a row holds it: where its part stands in the image.
-pub fn read_string_at_ptr(image: &[u8], base: u32, ptr: u32) -> Text
-    ensures { result ≡ run (text_p base ptr) image.now }
-{
-    let n = short_ascii(image, base, ptr);
-    if n < CHUNK {
-        let offset = ptr - base;
-        let length = n as u32;
-        return Text {
-            number: 0,
-            offset,
-            length,
-            width: length,
-        };
-    }
-    read_any_string(image, base, ptr)
 }

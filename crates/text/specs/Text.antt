@@ -1,11 +1,14 @@
 -- Document 01, "String": chunks of 64 bytes, at most 1,024; the first NUL ends it.
-use Rattle.std.specs.Prelude.{ℕ, zero, suc, ◌+◌, ◌-◌, Bool, false, ◌||◌, List, [], ◌∷◌, ◌++◌, leb, ltb, eqb, length, take, drop}
+use Rattle.std.specs.Prelude.{ℕ, zero, suc, ◌+◌, ◌-◌, Bool, false, ◌||◌, List, [], ◌∷◌, ◌++◌, leb, ltb, eqb, length, take, drop, Result, Ok, Err}
 use Rattle.base.specs.Choice.{pick}
 use Rattle.prog.specs.Prog.{Prog, done, fetch, run}
 use Rattle.window.specs.Window.{past_window}
 use Rattle.utf8.specs.Utf8.{is_utf8}
 use Rattle.utf8.specs.Points.{points}
+use Rattle.refusal.specs.Refusal.{number_of}
+use Rattle.refusal.specs.declared.Refusal.{Refusal}
 use Rattle.text.specs.declared.Text.{Text as Str}
+use Rattle.text.specs.declared.TextPart.{TextPart}
 
 -- an accepted string is that part of the image, without its NUL, and gives its width
 abbrev pub accepted_text : ℕ → ℕ → ℕ → Str
@@ -14,6 +17,11 @@ accepted_text offset len wide = record { number = 0; offset = offset; length = l
 -- a refused one shows offset, length and width 0
 abbrev pub refused_text : ℕ → Str
 refused_text n = record { number = n; offset = 0; length = 0; width = 0 }
+
+-- a string's answer as a report holds it
+abbrev pub text_item : Result TextPart Refusal → Str
+text_item (Ok p) = accepted_text p.offset p.length p.width
+text_item (Err r) = refused_text (number_of r)
 
 -- the bytes of a string
 abbrev pub bytes_of : List ℕ → Str → List ℕ

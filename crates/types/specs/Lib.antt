@@ -1,2 +1,3 @@
 pub mod Types
-pub mod Laws
+pub mod Known
+pub mod Texts

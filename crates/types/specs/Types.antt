@@ -1,10 +1,9 @@
 -- The case of each number of the enums of types.rs (document 01, "Info header", "ROM sets and ROM infos", "Pins").
-use Rattle.std.specs.Prelude.{ℕ, Bool, true, false, List, [], ◌∷◌, get_or}
+use Rattle.std.specs.Prelude.{ℕ, Bool, true, false, Option, Some, None, List, [], ◌∷◌, get_or}
 use Rattle.types.specs.declared.McuLine.{McuLine}
 use Rattle.types.specs.declared.McuStorage.{McuStorage}
 use Rattle.types.specs.declared.SdrrMcuPort.{SdrrMcuPort}
 use Rattle.types.specs.declared.SdrrRomType.{SdrrRomType}
-use Rattle.types.specs.declared.Level.{Level}
 
 -- line (0..5, 5 = Rp2350)
 abbrev pub lines : List McuLine
@@ -43,7 +42,6 @@ unfoldable pub rom_type_of : ℕ → SdrrRomType
 rom_type_of n = get_or rom_types n SdrrRomType.Rom2316
 
 -- a level not given is low
-unfoldable pub is_high : Level → Bool
-is_high Level.NotGiven = false
-is_high Level.Low = false
-is_high Level.High = true
+unfoldable pub is_high : Option Bool → Bool
+is_high None = false
+is_high (Some level) = level

@@ -10,6 +10,7 @@ ghost use Rattle.std.specs.Prelude.{◌≡◌, ◌<◌, ◌≤◌, length, IfOk}
 
 use std::io;
 use std::io::Read;
+use window::Window;
 
 // The contract gives the length alone, so that no caller's proof computes the list.
 fn input_space() -> [u8; 2097152]
@@ -56,10 +57,8 @@ fn run_extra_info(rt: &impl Print, line: &[u8], image: &[u8]) -> io::Result<()> 
     let base = lines::number(line, 0);
     let pointer = lines::number(line, 1);
     let version = run_version(line);
-    show::extra_info(
-        rt,
-        extra_info::read_extra_info(image, base, pointer, version),
-    )
+    let r = extra_info::read_extra_info(Window { image, base }, pointer, version);
+    show::extra_info(rt, extra_info::extra_info_item(r))
 }
 
 // A string by the call for C and Rust.
@@ -73,15 +72,13 @@ fn run_string(rt: &impl Print, image: &[u8], base: u32, pointer: u32) -> io::Res
 fn run_record(rt: &impl Print, kind: u8, line: &[u8], image: &[u8]) -> io::Result<()> {
     let base = lines::number(line, 0);
     let at = lines::number(line, 1);
+    let w = Window { image, base };
     match kind {
-        b's' => show::text(rt, strings::read_string_at_ptr(image, base, at)),
+        b's' => show::text(rt, text::text_item(strings::read_string_at_ptr(w, at))),
         b'S' => run_string(rt, image, base, at),
-        b'h' => show::header(rt, header_record::retrieve_header(image, base, at)),
-        b'm' => show::metadata(
-            rt,
-            metadata::read_one_rom_metadata_header_info(image, base, at),
-        ),
-        b'p' => show::pins(rt, pins_record::read_pins(image, base, at)),
+        b'h' => show::header(rt, header_record::retrieve_header(w, at)),
+        b'm' => show::metadata(rt, metadata::read_one_rom_metadata_header_info(w, at)),
+        b'p' => show::pins(rt, pins::pins_item(pins_record::read_pins(w, at))),
         _ => show::first(rt, 255),
     }
 }

@@ -1,8 +1,9 @@
 // Answers as numbers on a line.
-use extra_info::{ExtraInfoItem, FirePioDefault, SdrrExtraInfo};
-use header::{HeaderAnswer, SdrrInfoFields};
-use metadata::MetadataAnswer;
+use extra_info::{ExtraInfoItem, SdrrExtraInfo};
+use header::{SdrrInfoFields, SdrrInfoHeader};
+use metadata::OneRomMetadataHeader;
 use pins::{PinsItem, SdrrPins};
+use refusal::Refusal;
 use std::io;
 use text::Text;
 use types::SdrrMcuPort;
@@ -56,20 +57,37 @@ pub(crate) fn text(rt: &impl Print, t: Text) -> io::Result<()> {
     four(rt, t.number as u32, t.offset, t.length, t.width)
 }
 
-pub(crate) fn metadata(rt: &impl Print, m: MetadataAnswer) -> io::Result<()> {
-    first(rt, m.number as u32)?;
-    byte(rt, m.rom_set_count)?;
-    next(rt, m.rom_sets_ptr)
+// A refusal's number, and a zero for each value.
+fn refused(rt: &impl Print, refusal: Refusal, values: u32) -> io::Result<()> {
+    first(rt, refusal.number() as u32)?;
+    for _ in 0..values {
+        next(rt, 0)?;
+    }
+    Ok(())
+}
+
+pub(crate) fn metadata(
+    rt: &impl Print,
+    r: Result<OneRomMetadataHeader, Refusal>,
+) -> io::Result<()> {
+    match r {
+        Ok(m) => {
+            first(rt, 0)?;
+            byte(rt, m.rom_set_count)?;
+            next(rt, m.rom_sets_ptr)
+        }
+        Err(refusal) => refused(rt, refusal, 2),
+    }
 }
 
 fn port(rt: &impl Print, p: SdrrMcuPort) -> io::Result<()> {
     byte(rt, type_numbers::port_number(p))
 }
 
-fn pio_default(rt: &impl Print, p: FirePioDefault) -> io::Result<()> {
+fn pio_default(rt: &impl Print, p: Option<bool>) -> io::Result<()> {
     match p {
-        FirePioDefault::NotGiven => next(rt, 2),
-        FirePioDefault::Given(b) => flag(rt, b),
+        None => next(rt, 2),
+        Some(b) => flag(rt, b),
     }
 }
 
@@ -136,17 +154,20 @@ fn fields(rt: &impl Print, f: SdrrInfoFields) -> io::Result<()> {
     byte(rt, boot[3])
 }
 
-pub(crate) fn header(rt: &impl Print, a: HeaderAnswer) -> io::Result<()> {
-    first(rt, a.number as u32)?;
-    let h = a.header;
-    let f = h.fields;
-    fields(rt, f)?;
-    next(rt, h.build_date_ptr)?;
-    next(rt, h.hw_rev_ptr)?;
-    byte(rt, h.rom_set_count)?;
-    next(rt, h.rom_sets_ptr)?;
-    next(rt, h.pins_ptr)?;
-    next(rt, h.extra_ptr)
+pub(crate) fn header(rt: &impl Print, r: Result<SdrrInfoHeader, Refusal>) -> io::Result<()> {
+    match r {
+        Ok(h) => {
+            first(rt, 0)?;
+            fields(rt, h.fields)?;
+            next(rt, h.build_date_ptr)?;
+            next(rt, h.hw_rev_ptr)?;
+            byte(rt, h.rom_set_count)?;
+            next(rt, h.rom_sets_ptr)?;
+            next(rt, h.pins_ptr)?;
+            next(rt, h.extra_ptr)
+        }
+        Err(refusal) => refused(rt, refusal, 33),
+    }
 }
 
 fn ports(rt: &impl Print, p: SdrrPins) -> io::Result<()> {

@@ -2,9 +2,10 @@
 #![tactic(auto)]
 
 ghost use Rattle.std.specs.Prelude.{◌≡◌};
-ghost use Rattle.version.specs.Version.{version, before, below04, from050, from051, from060, from070};
+ghost use Rattle.version.specs.Version.{below04, from050, from051, from060, from070};
 
-#[derive(Clone, Copy)]
+// The order is by major, then minor, then patch, then build, as the fields stand.
+#[derive(Clone, Copy, Debug, PartialEq, Eq, PartialOrd, Ord)]
 pub struct FirmwareVersion {
     pub major: u16,
     pub minor: u16,
@@ -12,65 +13,78 @@ pub struct FirmwareVersion {
     pub build: u16,
 }
 
-// Whether v comes before w: by major, then minor, then patch, then build.
-pub fn is_before(v: FirmwareVersion, w: FirmwareVersion) -> bool
-    ensures { result ≡ before v w }
-{
-    if v.major != w.major {
-        return v.major < w.major;
-    }
-    if v.minor != w.minor {
-        return v.minor < w.minor;
-    }
-    if v.patch != w.patch {
-        return v.patch < w.patch;
-    }
-    v.build < w.build
-}
+// The releases at which something changes: build 0.
+pub const V0_4_0: FirmwareVersion = FirmwareVersion {
+    major: 0,
+    minor: 4,
+    patch: 0,
+    build: 0,
+};
 
-// A release: build 0.
-fn release(major: u16, minor: u16, patch: u16) -> FirmwareVersion
-    ensures { result ≡ version major minor patch 0 }
-{
-    FirmwareVersion {
-        major,
-        minor,
-        patch,
-        build: 0,
-    }
-}
+pub const V0_5_0: FirmwareVersion = FirmwareVersion {
+    major: 0,
+    minor: 5,
+    patch: 0,
+    build: 0,
+};
+
+pub const V0_5_1: FirmwareVersion = FirmwareVersion {
+    major: 0,
+    minor: 5,
+    patch: 1,
+    build: 0,
+};
+
+pub const V0_6_0: FirmwareVersion = FirmwareVersion {
+    major: 0,
+    minor: 6,
+    patch: 0,
+    build: 0,
+};
+
+pub const V0_7_0: FirmwareVersion = FirmwareVersion {
+    major: 0,
+    minor: 7,
+    patch: 0,
+    build: 0,
+};
 
 // Below 0.4 there is no extra pointer.
+#[tactic(auto, using(crate::specs::Laws::lt_is_before))]
 pub fn below_0_4(v: FirmwareVersion) -> bool
     ensures { result ≡ below04 v }
 {
-    is_before(v, release(0, 4, 0))
+    v < V0_4_0
 }
 
 // Metadata is looked for from 0.5.0.
+#[tactic(auto, using(crate::specs::Laws::ge_is_at_or_past))]
 pub fn from_0_5_0(v: FirmwareVersion) -> bool
     ensures { result ≡ from050 v }
 {
-    !is_before(v, release(0, 5, 0))
+    v >= V0_5_0
 }
 
 // ROM infos have filenames from 0.5.1.
+#[tactic(auto, using(crate::specs::Laws::ge_is_at_or_past))]
 pub fn from_0_5_1(v: FirmwareVersion) -> bool
     ensures { result ≡ from051 v }
 {
-    !is_before(v, release(0, 5, 1))
+    v >= V0_5_1
 }
 
 // From 0.6.0 the PIO default flag is given, and the stride is longer.
+#[tactic(auto, using(crate::specs::Laws::ge_is_at_or_past))]
 pub fn from_0_6_0(v: FirmwareVersion) -> bool
     ensures { result ≡ from060 v }
 {
-    !is_before(v, release(0, 6, 0))
+    v >= V0_6_0
 }
 
 // Firmware from 0.7.0 is refused.
+#[tactic(auto, using(crate::specs::Laws::ge_is_at_or_past))]
 pub fn from_0_7_0(v: FirmwareVersion) -> bool
     ensures { result ≡ from070 v }
 {
-    !is_before(v, release(0, 7, 0))
+    v >= V0_7_0
 }

@@ -11,7 +11,7 @@ pub returns-then-not-is_job-clause-reply : goal.returns-then-not-is_job-clause-r
 unfolding data_call
 returns-then-not-is_job-clause-reply c =
     let a = c.args in
-    ap (λ (t : Reply). t.number) (none_read a.flash_base a.cs0_base (lent_by (board_in a.flash_base a.cs0_base a.report) a.set_rows.now []) a.job a.counts.now (range a.set a.offset (length a.buffer.now)) a.image.now (sym c.is_job.ensures ∙ c.if-not-is_job.true) c.told-counts _ c.no_job.ensures)
+    ap (λ (t : Reply). t.number) (none_read a.flash_base a.cs0_base (lent_by (board_in a.flash_base a.cs0_base a.report) a.set_rows.now []) a.job a.counts.now (range a.set a.offset (length a.buffer.now)) a.image.now (sym c.is_job.ensures ∙ c.if-not-is_job.true) c.told-counts _ (c.number.ensures ∙ c.no_job.ensures))
 
 pub returns-then-not-is_job-clause-buffer : goal.returns-then-not-is_job-clause-buffer
 unfolding data_call

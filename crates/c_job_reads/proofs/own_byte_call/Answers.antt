@@ -14,7 +14,7 @@ pub returns-then-not-is_job-clause-reply : goal.returns-then-not-is_job-clause-r
 unfolding own_call
 returns-then-not-is_job-clause-reply c =
     let a = c.args in
-    ap (λ (t : Reply). t.number) (none_read a.flash_base a.cs0_base (lent_by (board_in a.flash_base a.cs0_base a.report) a.set_rows.now a.rom_rows.now) a.job a.counts.now (own a.set a.address (levels_from a.levels.now)) a.image.now (sym c.is_job.ensures ∙ c.if-not-is_job.true) c.told-counts _ c.no_job.ensures)
+    ap (λ (t : Reply). t.number) (none_read a.flash_base a.cs0_base (lent_by (board_in a.flash_base a.cs0_base a.report) a.set_rows.now a.rom_rows.now) a.job a.counts.now (own a.set a.address (levels_from a.levels.now)) a.image.now (sym c.is_job.ensures ∙ c.if-not-is_job.true) c.told-counts _ (c.number.ensures ∙ c.no_job.ensures))
 
 pub returns-then-not-is_job-clause-counts : goal.returns-then-not-is_job-clause-counts
 unfolding own_call

@@ -14,7 +14,7 @@ pub returns-then-not-is_job-clause-reply : goal.returns-then-not-is_job-clause-r
 unfolding byte_call
 returns-then-not-is_job-clause-reply c =
     let a = c.args in
-    ap (λ (t : Reply). t.number) (none_read a.flash_base a.cs0_base (lent_by (board_in a.flash_base a.cs0_base a.report) a.set_rows.now a.rom_rows.now) a.job a.counts.now (byte a.set (address_from a.logical a.address a.levels.now) false) a.image.now (sym c.is_job.ensures ∙ c.if-not-is_job.true) c.told-counts _ c.no_job.ensures)
+    ap (λ (t : Reply). t.number) (none_read a.flash_base a.cs0_base (lent_by (board_in a.flash_base a.cs0_base a.report) a.set_rows.now a.rom_rows.now) a.job a.counts.now (byte a.set (address_from a.logical a.address a.levels.now) false) a.image.now (sym c.is_job.ensures ∙ c.if-not-is_job.true) c.told-counts _ (c.number.ensures ∙ c.no_job.ensures))
 
 pub returns-then-not-is_job-clause-counts : goal.returns-then-not-is_job-clause-counts
 unfolding byte_call

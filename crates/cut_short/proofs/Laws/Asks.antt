@@ -13,8 +13,7 @@ use Rattle.version.specs.declared.FirmwareVersion.{FirmwareVersion}
 use Rattle.text.specs.Text.{has_nul, chunks_p, text_p}
 use Rattle.header.specs.declared.SdrrInfoFields.{SdrrInfoFields}
 use Rattle.header.specs.declared.SdrrInfoHeader.{SdrrInfoHeader}
-use Rattle.header.specs.declared.HeaderAnswer.{HeaderAnswer}
-use Rattle.header.specs.Header.{has_filenames, refused_header, header_of, header_p}
+use Rattle.header.specs.Header.{HeaderAnswer, has_filenames, refused_header, header_of, header_p}
 use Rattle.extra_info.specs.ExtraInfo.{refused_extra_info, extra_info_of, extra_info_p}
 use Rattle.metadata.specs.Metadata.{refused_metadata, metadata_of, metadata_p}
 use Rattle.pins.specs.Pins.{refused_pins, pins_of, pins_p}

@@ -16,7 +16,7 @@ use Rattle.prog.proofs.Laws.Parts.{cut_done, cut_bind, cut_map}
 use Rattle.prog.proofs.Laws.Honest.{cut_honest}
 use Rattle.text.specs.declared.Text.{Text}
 use Rattle.header.specs.declared.SdrrInfoHeader.{SdrrInfoHeader}
-use Rattle.header.specs.declared.HeaderAnswer.{HeaderAnswer}
+use Rattle.header.specs.Header.{HeaderAnswer}
 use Rattle.header.specs.Laws.{header_honest}
 use Rattle.metadata.specs.declared.MetadataItem.{MetadataItem}
 use Rattle.walk.specs.Walk.{RomSet, Part, stop, found, roms_of}

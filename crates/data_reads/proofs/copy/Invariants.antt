@@ -1,8 +1,7 @@
-use Rattle.std.proofs.Common.{◌≡◌, ◌-◌, length, take}
+use Rattle.std.proofs.Common.{◌≡◌}
+use lib.Seq.{paste}
 use Rattle.data_reads.proofs.copy.Given as goal
 
+-- the bytes so far, and then what stood there
 abbrev pub invariant-loop-i : goal.invariant-loop-i
-invariant-loop-i l = take l.i l.to ≡ take l.i l.from
-
-abbrev pub decreases-loop-i : goal.decreases-loop-i
-decreases-loop-i l = length l.to - l.i
+invariant-loop-i l = l.to ≡ paste l.initial.to 0 l.from l.i

@@ -4,15 +4,12 @@ use Rattle.demangle.specs.Laws.{taken_lt}
 use Rattle.demangle.proofs.Steps.{gather_on, gather_end, with_lt}
 use Rattle.demangle.proofs.gathered.Goals as goal
 
-pub with_bit-r-requires : goal.with_bit-r-requires
-with_bit-r-requires c = grind (arith, taken_lt)
-
 pub loop-i-preserved : goal.loop-i-preserved
 loop-i-preserved c =
     let l = c.loop-i in
     let a = c.args in
     let t = taken_bit a.x (get_or a.entries.now l.i 0) in
-    let n : c.with_bit-r.result ≡ l.r + t * 2 ^ l.i = rw (c.with_bit-r.ensures, c.bit_of-b.ensures) in
+    let n : c.with_bit-r.result ≡ l.r + t * 2 ^ l.i = rw (c.with_bit-r.ensures, c.bit_of.ensures) in
     (rw n (with_lt l.r t l.i l.invariant.0 (taken_lt a.x _)), rw n (gather_on a.entries.now a.x l.r l.i (omega arith) ∙ l.invariant.1))
 
 pub returns : goal.returns

@@ -15,8 +15,7 @@ use Rattle.prog.specs.Prog.{run}
 use Rattle.prog.proofs.Laws.Run.{run_done, run_bind, run_map}
 use Rattle.text.specs.declared.Text.{Text}
 use Rattle.header.specs.declared.SdrrInfoHeader.{SdrrInfoHeader}
-use Rattle.header.specs.declared.HeaderAnswer.{HeaderAnswer}
-use Rattle.header.specs.Header.{header_p}
+use Rattle.header.specs.Header.{HeaderAnswer, header_p}
 use Rattle.walk.specs.Walk.{RomSet, roms_of}
 use Rattle.rows.specs.LentRows.{set_row_length, rom_row_length}
 use Rattle.walk.specs.Rows.{short_sets, short_roms, overwritten}

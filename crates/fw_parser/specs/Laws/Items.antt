@@ -13,8 +13,7 @@ use Rattle.prog.proofs.Laws.Run.{run_bind, run_map, run_also}
 use Rattle.text.specs.declared.Text.{Text}
 use Rattle.text.specs.Text.{refused_text, text_p}
 use Rattle.header.specs.declared.SdrrInfoHeader.{SdrrInfoHeader}
-use Rattle.header.specs.declared.HeaderAnswer.{HeaderAnswer}
-use Rattle.header.specs.Header.{header_p}
+use Rattle.header.specs.Header.{HeaderAnswer, header_p}
 use Rattle.extra_info.specs.declared.ExtraInfoItem.{ExtraInfoItem}
 use Rattle.extra_info.specs.ExtraInfo.{extra_info_p}
 use Rattle.pins.specs.declared.PinsItem.{PinsItem}

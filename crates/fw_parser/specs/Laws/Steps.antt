@@ -14,8 +14,7 @@ use Rattle.prog.proofs.Laws.Run.{run_done, run_bind, run_map, run_also}
 use Rattle.text.specs.declared.Text.{Text}
 use Rattle.text.specs.Text.{text_p}
 use Rattle.header.specs.declared.SdrrInfoHeader.{SdrrInfoHeader}
-use Rattle.header.specs.declared.HeaderAnswer.{HeaderAnswer}
-use Rattle.header.specs.Header.{header_p}
+use Rattle.header.specs.Header.{HeaderAnswer, header_p}
 use Rattle.extra_info.specs.ExtraInfo.{extra_info_p}
 use Rattle.pins.specs.Pins.{pins_p}
 use Rattle.walk.specs.Walk.{RomSet, Part, stop, found, roms_of}
@@ -23,9 +22,8 @@ use Rattle.walk.specs.Names.{walk_names_p}
 use Rattle.walk.specs.Rows.{set_rows_of, set_rows_after, rom_rows_of, short_sets, short_roms, overwritten}
 use Rattle.walk.proofs.Laws.Numbers.{Numbered}
 use Rattle.rom_rows.specs.Reply as rows
-use Rattle.records.specs.declared.Records.{Records}
 use Rattle.sets_source.specs.Code.{source_of}
-use Rattle.records.specs.Code.{records_of}
+use Rattle.records.specs.Code.{RecordsShown, records_of}
 use Rattle.sets_item.specs.Code.{walk_of, item_of}
 use Rattle.sets_item.specs.Laws.{Walks, left_numbered, sets_run, item_refused, item_accepted}
 use Rattle.window.specs.declared.Settings.{Settings}
@@ -162,7 +160,7 @@ module _ (s : Settings) (x ls lr : List ℕ) where
           ∙ rw (eq-eqb a.number 0 z, ← eb)
           (run_map x (λ t. verdict (length ls) (length lr) a.header (items_of t)) (items_p base a.header) ∙ ap (verdict (length ls) (length lr) a.header) (row_items x base a.header))
 
-      module _ (c : Records) (ec : c ≡ records_of base a.header x) (v : ℕ) (t u : List ℕ) where
+      module _ (c : RecordsShown) (ec : c ≡ records_of base a.header x) (v : ℕ) (t u : List ℕ) where
         abbrev w : Part (List RomSet)
         w = walk x base a.header
 
@@ -171,7 +169,7 @@ module _ (s : Settings) (x ls lr : List ℕ) where
 
         is_walk : walk_of base a.header.fields c.sets x ≡ w
         unfolding records_of
-        is_walk = ap (λ (r : Records). walk_of base a.header.fields r.sets x) ec
+        is_walk = ap (λ (r : RecordsShown). walk_of base a.header.fields r.sets x) ec
 
         module _ (d : Walks x base a.header.fields c.sets ls lr v t u) where
           number : v ≡ (rows.walk_reply w (length ls) (length lr)).number
@@ -204,5 +202,5 @@ module _ (s : Settings) (x ls lr : List ℕ) where
           left_open e =
               let f = long onward names ls lr v w numbered number e in
               let r : report_with a.header.fields c v ≡ report_of a.header (items_by x base a.header w) =
-              ap (λ (q : Records). report_with a.header.fields q v) ec ∙ sym (report_by x base a.header v w (f.item (set_count a.header (look x base a.header)))) in
+              ap (λ (q : RecordsShown). report_with a.header.fields q v) ec ∙ sym (report_by x base a.header v w (f.item (set_count a.header (look x base a.header)))) in
               leaves (onward w) (by_walk ∙ f.opens) _ t u (ap (λ (i : SdrrInfo). record { number = 0; info = i }) r) (sets_left ∙ f.sets) (roms_left ∙ f.roms)

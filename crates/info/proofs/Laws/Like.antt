@@ -13,7 +13,7 @@ use Rattle.prog.proofs.Laws.Run.{run_map}
 use Rattle.prog.proofs.Laws.Honest.{Honest, honest_done, honest_pick, honest_map, honesty}
 use Rattle.types.specs.declared.SdrrCsSet.{SdrrCsSet}
 use Rattle.governing.specs.Governing.{governing, governing_set0, governing_own}
-use Rattle.mangle.specs.declared.Mangled.{Mangled}
+use Rattle.mangle.specs.Mangle.{Mangled}
 use Rattle.info.proofs.Laws.Steps.{own_accepted}
 use Rattle.info.specs.declared.SdrrAddress.{SdrrAddress}
 use Rattle.info.specs.Lent.{Lent, first_rom, type_word, mangled_by, mangle_address, mangle_own, demangle_byte}

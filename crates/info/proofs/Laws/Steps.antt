@@ -6,10 +6,8 @@ use Rattle.std.proofs.lemmas.Bool.{eqb-false}
 use Rattle.base.specs.Laws.{cases}
 use Rattle.types.specs.declared.SdrrCsSet.{SdrrCsSet}
 use Rattle.board.specs.declared.BoardPins.{BoardPins}
-use Rattle.mangle.specs.declared.Mangled.{Mangled}
-use Rattle.mangle.specs.Mangle.{mangle_core}
-use Rattle.governing.specs.declared.GoverningSet.{GoverningSet}
-use Rattle.governing.specs.Governing.{governing_set0, governing_own}
+use Rattle.mangle.specs.Mangle.{Mangled, mangle_core}
+use Rattle.governing.specs.Governing.{GoverningSet, governing_set0, governing_own}
 use Rattle.governing.proofs.Laws.{Governs, own_governs}
 use Rattle.info.specs.Lent.{unmangled, mangled_by, mangle_address, mangle_own}
 

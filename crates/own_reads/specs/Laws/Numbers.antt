@@ -10,11 +10,9 @@ use Rattle.types.specs.declared.SdrrCsSet.{SdrrCsSet}
 use Rattle.window.specs.Window.{can_read, base_after, beyond_window}
 use Rattle.rows.specs.LentRows.{has_set_row, data_pointer, size_of, first_rom, rom_count, type_word, set_number}
 use Rattle.demangle.specs.Demangle.{all_below, demangle}
-use Rattle.mangle.specs.declared.Mangled.{Mangled}
-use Rattle.mangle.specs.Mangle.{mangle_core}
+use Rattle.mangle.specs.Mangle.{Mangled, mangle_core}
 use Rattle.mangle.specs.Laws.Bits.{no_rom}
-use Rattle.governing.specs.declared.GoverningSet.{GoverningSet}
-use Rattle.governing.specs.Governing.{ungoverned, lacks_first_rom, governing, governing_own}
+use Rattle.governing.specs.Governing.{GoverningSet, ungoverned, lacks_first_rom, governing, governing_own}
 use Rattle.governing.proofs.Laws.{no_set_row, by_set, governing_lent, governing_4, own_no_set, own_no_row, own_no_pins, own_by_set}
 use Rattle.info.specs.declared.SdrrAddress.{SdrrAddress}
 use Rattle.info.specs.Lent.{Lent, unmangled, mangled_by}

@@ -7,9 +7,8 @@ use Rattle.base.specs.Laws.{cases}
 use Rattle.types.specs.declared.SdrrCsSet.{SdrrCsSet}
 use Rattle.window.specs.Window.{beyond_window}
 use Rattle.rows.specs.LentRows.{has_set_row, rom_count}
-use Rattle.mangle.specs.declared.Mangled.{Mangled}
-use Rattle.governing.specs.declared.GoverningSet.{GoverningSet}
-use Rattle.governing.specs.Governing.{governing, governing_own}
+use Rattle.mangle.specs.Mangle.{Mangled}
+use Rattle.governing.specs.Governing.{GoverningSet, governing, governing_own}
 use Rattle.info.specs.declared.SdrrAddress.{SdrrAddress}
 use Rattle.info.specs.Lent.{Lent, unmangled, mangle_own, demangle_byte}
 use Rattle.info.specs.Reads.{byte, own, own_physical, Reply, refused_reply, rom_read}

@@ -7,9 +7,8 @@ use Rattle.base.specs.Laws.{cases}
 use Rattle.base.specs.Choice.{pick}
 use Rattle.types.specs.declared.SdrrCsSet.{SdrrCsSet}
 use Rattle.window.specs.Window.{beyond_window}
-use Rattle.mangle.specs.declared.Mangled.{Mangled}
-use Rattle.governing.specs.declared.GoverningSet.{GoverningSet}
-use Rattle.governing.specs.Governing.{ungoverned, governing, governing_set0, governing_own}
+use Rattle.mangle.specs.Mangle.{Mangled}
+use Rattle.governing.specs.Governing.{GoverningSet, ungoverned, governing, governing_set0, governing_own}
 use Rattle.governing.proofs.Laws.{no_pins, no_sets, by_set_0, own_no_row, own_by_set}
 use Rattle.info.specs.declared.SdrrAddress.{SdrrAddress}
 use Rattle.info.specs.Lent.{Lent, unmangled, mangled_by}

@@ -11,7 +11,7 @@ use Rattle.types.specs.declared.SdrrCsSet.{SdrrCsSet}
 use Rattle.window.specs.Window.{base_after, beyond_window}
 use Rattle.prog.specs.Prog.{map_p, run}
 use Rattle.prog.proofs.Laws.Run.{run_done, run_map}
-use Rattle.mangle.specs.declared.Mangled.{Mangled}
+use Rattle.mangle.specs.Mangle.{Mangled}
 use Rattle.governing.proofs.Laws.{Governs}
 use Rattle.info.specs.declared.SdrrAddress.{SdrrAddress}
 use Rattle.info.specs.Lent.{Lent}

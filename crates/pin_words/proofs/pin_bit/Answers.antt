@@ -5,4 +5,4 @@ use Rattle.pin_words.proofs.pin_bit.Goals as goal
 pub returns : goal.returns
 returns c =
     let a = c.args in
-    top_shr (a.pin + 15 - a.top) (a.top - a.pin) (omega arith)
+    top_shr (a.pin - a.m) (a.m + 15 - a.pin) (omega arith)

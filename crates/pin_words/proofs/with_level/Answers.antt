@@ -1,9 +1,8 @@
-use Rattle.std.proofs.Common.{ap, ◌∙◌}
-use Rattle.std.specs.Int.Bits.{bit_or, bit_xor}
-use Rattle.pin_words.specs.Laws.{level_bits}
 use Rattle.pin_words.proofs.with_level.Goals as goal
+use Rattle.pin_words.proofs.with_level.Goals.{then-high, else-high}
+use Rattle.pin_words.proofs.Steps.{set_high, set_low}
 
 pub returns : goal.returns
 returns c =
     let a = c.args in
-    ap (bit_xor (bit_or a.v a.bit)) c.low_bit.ensures ∙ level_bits a.v a.bit a.b c.requires
+    elim c.if-high.branch [ then-high w ↦ rw (w.result-is, w.if-high.true) (set_high a.v a.bit) | else-high w ↦ rw (w.result-is, w.if-high.false) (set_low a.v a.bit) ]

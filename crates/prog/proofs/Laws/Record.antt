@@ -1,10 +1,13 @@
 -- A record of n bytes at an address: how its reader runs, where the code has the image from that address onward.
 use Rattle.std.specs.Prelude.{ℕ, zero, suc, ◌-◌, ◌≤◌, ◌≡◌, refl, Bool, true, false, List, [], ◌∷◌, ltb, eqb, length, get_or, take, drop}
-use Rattle.std.proofs.Common.{arith, not-suc-le-zero, le_of_suc-le-suc, ap, sym, ◌∙◌, length-take, get_or-take, length-take-le, take_all, le-ltb, ltb-true, ltb-false, eq-eqb, ne_eqb}
+use Rattle.std.proofs.Common.{arith, not-suc-le-zero, le_of_suc-le-suc, ap, sym, ◌∙◌, length-take, get_or-take, length-take-le, take_all, le-ltb, ltb-true, ltb-false, ne_eqb}
 use Rattle.std.proofs.Math.ListN.{get_or-eq_default}
 use Rattle.base.specs.Choice.{pick}
 use Rattle.base.specs.Laws.{cases}
 use Rattle.magic.specs.Magic.{starts_with}
+use Rattle.refusal.specs.declared.Refusal.{Refusal}
+use Rattle.refusal.specs.Refusal.{number_of}
+use Rattle.refusal.specs.Laws.{number_not_0}
 use Rattle.window.specs.Window.{can_read, on_from, pointer_number}
 use Rattle.window.specs.Laws.{pointer_3, pointer_2, pointer_0}
 use Rattle.prog.specs.Prog.{done, fetch, record_p, run}
@@ -59,10 +62,10 @@ module _ {A : Type 0} (x : List ℕ) (base pointer n : ℕ) (refused : ℕ → A
       (λ f. rw (e, pointer_0 x base pointer n from f) (record_onward x base pointer n (refused 2) rec_of f front))
       (λ f. rw (e, pointer_2 x base pointer n from f) (record_ended x base pointer n (refused 2) rec_of f)))
 
-  -- as the code has it: k is the pointer's number, s the image from there on, r the reply
-  module _ (front : (s : List ℕ) → rec_of (take n s) ≡ rec_of s) (k : ℕ) (e : k ≡ number) (r : A) where
-    pub pointer_refused : (k ≡ 0 → ⊥) → r ≡ refused k → r ≡ run (record_p base pointer n refused rec_of) x
-    pointer_refused h i = i ∙ sym (by_number front ∙ rw (← e, ne_eqb k 0 h))
+  -- as the code has it: refused by r, or read of the image from the pointer on
+  module _ (front : (s : List ℕ) → rec_of (take n s) ≡ rec_of s) where
+    pub pointer_refused : (r : Refusal) → number_of r ≡ number → refused (number_of r) ≡ run (record_p base pointer n refused rec_of) x
+    pointer_refused r e = sym (by_number front ∙ rw (← e, ne_eqb (number_of r) 0 (number_not_0 r)))
 
-    pub pointer_read : k ≡ 0 → (s : List ℕ) → s ≡ on_from x base pointer → r ≡ rec_of s → r ≡ run (record_p base pointer n refused rec_of) x
-    pointer_read h s f i = i ∙ rw f (sym (by_number front ∙ rw (← e, eq-eqb k 0 h)))
+    pub pointer_read : 0 ≡ number → rec_of (on_from x base pointer) ≡ run (record_p base pointer n refused rec_of) x
+    pointer_read e = sym (by_number front ∙ rw (← e))

@@ -25,10 +25,11 @@ READING = [
     ("Runtime", ["runtime_info/Runtime", "runtime_info/Words"]),
     ("demand 3", ["cut_short/Shown", "opened_board/ReadAfter", "cut_short/Demand3"]),
     ("the calls of C and Rust", ["c_board/Board", "c_board/Value", "c_report/Report", "c_handed/Handed", "c_open/Opening", "c_job_reads/Reads", "c_mangle/Board"]),
+    ("the bench's own numbers and settings", ["bench_args/Reason", "bench_args/Setting", "bench_file/Unread"]),
 ]
-# Files at the top of specs/ that no buyer needs: the root, a program's table, and the numbers that are the bench's own.
+# Files at the top of specs/ that no buyer needs: the root, and a program's table.
 NOT_READ = {"Lib", "Laws", "Code", "Examples", "Refused"}
-NO_DEFINITIONS = {"starred", "bench_args", "bench_file"}
+NO_DEFINITIONS = {"starred"}
 # Words in backquotes that name nothing of the sources.
 WORDS = {"ensures", "requires", "read", "write", "stdout", "l"}
 

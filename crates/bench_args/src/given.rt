@@ -1,6 +1,19 @@
 // What of a request the library's calls take.
+ghost use Rattle.std.specs.Prelude.{◌≡◌};
+
+use crate::Request;
 use crate::levels::Levels;
 use types::SdrrCsSet;
+use window::Settings;
+
+/// The settings that a dump is opened with.
+pub fn settings(request: Request) -> Settings
+    ensures flash_base_value { result.flash_base ≡ request.settings.flash_base }
+    ensures cs0_base_value { result.cs0_base ≡ request.settings.cs0_base }
+    ensures info_offset_value { result.info_offset ≡ request.settings.info_offset }
+{
+    request.settings
+}
 
 // A line that is not named is low.
 fn level(given: Option<bool>) -> Option<bool> {

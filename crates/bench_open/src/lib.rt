@@ -43,7 +43,7 @@ pub fn answer<F: FnOnce(Asked, Opened<'_>, SdrrInfo) -> u8>(
     let asked = bench_refuse::how(rt, request);
     let mut space = bench_file::image_space();
     match bench_file::load(&rt, request.files, &mut space) {
-        Ok(image) => open(asked, request.settings, image, answer),
+        Ok(image) => open(asked, bench_args::given::settings(request), image, answer),
         Err(unread) => asked.part(unread.number(), ""),
     }
 }

@@ -1,5 +1,5 @@
 // Writing on a stream. Every result is looked at: a short write is continued, an interrupted one is made again.
-ghost use Rattle.std.specs.Prelude.{◌≤◌, length, IfOk};
+ghost use Rattle.std.specs.Prelude.{◌≤◌, length, IfOk, IfErr};
 
 use crate::Stream;
 use std::fmt;
@@ -26,8 +26,10 @@ struct Stopped<'a> {
     error: Error,
 }
 
-// Writes the bytes, or stops where a write fails.
-fn many<'a, W: Write>(to: &mut W, bytes: &'a [u8]) -> std::result::Result<(), Stopped<'a>> {
+// Writes the bytes, or stops where a write fails: then no more are still to be written than there were.
+fn many<'a, W: Write>(to: &mut W, bytes: &'a [u8]) -> std::result::Result<(), Stopped<'a>>
+    ensures within { IfErr result (λ s. length s.rest.now ≤ length bytes.now) }
+{
     let mut rest = bytes;
     while !rest.is_empty() {
         match once(to, rest) {

@@ -184,7 +184,9 @@ impl<'a> SetRead<'a> {
     fn raw_pieces(&self, out: &mut Out, size: u32) -> fmt::Result {
         let mut space = [0; PIECE];
         for offset in (0..size).step_by(PIECE) {
-            let n = PIECE.min((size - offset) as usize);
+            let left = (size - offset) as usize;
+            let n = PIECE.min(left);
+            prove!(n <= left);
             self.raw_piece(out, offset, &mut space[..n])?;
         }
         Ok(())

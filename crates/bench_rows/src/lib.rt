@@ -5,9 +5,8 @@ ghost use Rattle.std.specs.Prelude.{◌≡◌, ◌*◌, length};
 ghost use Rattle.rows.specs.LentRows.{set_row_length, rom_row_length};
 
 use board::Board;
-use refusal::Refusal;
 use rows::{RomWord, SetWord};
-use window::Window;
+use text::Text;
 
 // Rows for 255 sets, and for 4,096 ROMs. The contracts give the lengths alone.
 pub fn set_space() -> [u32; 255 * rows::SET_WORDS]
@@ -77,24 +76,26 @@ impl<'a> Opened<'a> {
         let board = self.board;
         let line = board.line;
         let base = window::base_after(board.flash_base, board.cs0_base, line);
-        let window = Window {
-            image: self.image,
-            base,
-        };
-        let length = self.set_word(set, SetWord::Size);
-        let n = length as usize;
-        set_data::set_bytes(window, board.served, self.set_rows, set, 0, n).map_err(
-            Refusal::number,
-        )?;
-        let at = self
-            .set_word(set, SetWord::DataPointer)
-            .saturating_sub(base);
-        Ok(Part { at, length })
+        let data = set_data::set_data(board.served, self.set_rows, set);
+        let n = data.size as usize;
+        let found = set_data::find(self.image, base, data, 0, n);
+        if found.number != 0 {
+            return Err(found.number);
+        }
+        Ok(Part {
+            at: found.at as u32,
+            length: data.size,
+        })
     }
 
     // The bytes of a part; of one that the dump ends before, none.
     pub fn bytes(self, part: Part) -> &'a [u8] {
-        let at = part.at as usize;
-        self.image.get(at..at + part.length as usize).unwrap_or(&[])
+        let text = Text {
+            number: 0,
+            offset: part.at,
+            length: part.length,
+            width: 0,
+        };
+        text::string_part(self.image, text)
     }
 }

@@ -7,7 +7,8 @@ use Rattle.board.specs.declared.BoardPins.{BoardPins}
 use Rattle.mangle.specs.Mangle.{Mangled}
 use Rattle.info.specs.declared.SdrrAddress.{SdrrAddress}
 use Rattle.info.specs.Lent.{mangle_address, demangled_by}
-use Rattle.set_data.specs.Code.{SetData, set_data, found_of}
+use Rattle.set_data.specs.declared.SetData.{SetData}
+use Rattle.set_data.specs.Code.{set_data, found_of}
 use Rattle.byte_reads.specs.declared.ByteRead.{ByteRead}
 
 abbrev pub no_byte : ℕ → ℕ → ByteRead

@@ -107,6 +107,35 @@ pub fn byte_at(
     stored_byte(w, served, set_rows, set, m, count)
 }
 
+// The same of a mangled address as it is shown: its number, whichever it is, and its value.
+#[tactic(auto, unfolding(crate::specs::Code::byte_at, crate::specs::Code::stored_byte))]
+pub fn byte_at_number(
+    image: &[u8],
+    flash_base: u32,
+    cs0_base: u32,
+    line: McuLine,
+    served: u32,
+    set_rows: &[u32],
+    set: u32,
+    number: u8,
+    value: u32,
+    count: u32,
+) -> ByteRead
+    ensures { result ≡ byte_at flash_base cs0_base line served set_rows.now set (record { number = number; value = value }) count image.now }
+{
+    if number == 0 {
+        let m = Ok(value);
+        return byte_at(
+            image, flash_base, cs0_base, line, served, set_rows, set, m, count,
+        );
+    }
+    let is_beyond = window::beyond_window(image, flash_base, cs0_base);
+    if is_beyond {
+        return no_byte(1, count);
+    }
+    no_byte(number, count)
+}
+
 pub fn byte_raw_on_count(
     image: &[u8],
     board: Board,

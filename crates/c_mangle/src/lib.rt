@@ -5,7 +5,7 @@ ghost use Rattle.std.specs.Prelude.{◌≡◌};
 ghost use Rattle.c_board.specs.Value.{value_after};
 ghost use Rattle.c_mangle.specs.Board.{mangle_call, demangle_call};
 
-#[tactic(auto, using(demangle::specs::Refused::refused), unfolding(crate::specs::Board::mangle_call, c_board::specs::Board::pins_from))]
+#[tactic(auto, using(demangle::specs::Refused::refused), unfolding(crate::specs::Board::mangle_call, info::specs::Lent::mangle_address, c_board::specs::Board::pins_from))]
 pub fn mangle_call(
     pins_number: u8,
     rom_pins: u8,
@@ -23,7 +23,8 @@ pub fn mangle_call(
 {
     let pins = c_board::pins_from(pins_number, rom_pins, [0; 8], *addr, *control);
     let set = c_board::levels_from(*levels);
-    match info::mangle_address(pins, served, set_rows, rom_rows, address, set) {
+    let set_0 = governing::governing_set_0(pins_number, served, set_rows, rom_rows);
+    match info::mangle_by(set_0, pins, address, set) {
         Ok(mangled) => {
             *value = mangled;
             0

@@ -1,17 +1,22 @@
--- What the codreadables tests say of the definitions, step by step.
+-- What the code's tests say of the definitions, step by step.
 -- Assumes nothing.
-use Rattle.std.specs.Prelude.{ℕ, suc, ◌+◌, ◌-◌, ◌*◌, ◌≤◌, ◌<◌, ◌≡◌, refl, true, false, List, ◌∷◌, Option, Some, None, ◌==◌, eqb, cond, length, take, drop, position}
+use Rattle.std.specs.Prelude.{ℕ, suc, ◌+◌, ◌-◌, ◌*◌, ◌≤◌, ◌<◌, ◌≡◌, refl, true, false, List, ◌∷◌, Option, Some, None, ◌==◌, eqb, cond, length, take, drop, position, Result, Ok, Err, IfOk}
 use Rattle.std.specs.List.{position_or_len}
-use Rattle.std.proofs.Common.{arith, ap, sym, ◌∙◌, lt-ltb, le-ltb}
+use Rattle.std.proofs.Common.{arith, ap, sym, ◌∙◌, lt-ltb, le-ltb, length-take}
+use Rattle.std.proofs.Math.ListN.{length-drop}
+use Rattle.std.proofs.Math.Seq.{length-take-le}
 use Rattle.std.proofs.lemmas.List.Recursion.{is_position_or_len}
 use Rattle.base.specs.Choice.{pick}
 use Rattle.base.specs.Laws.{cases, clash}
 use Rattle.window.specs.Window.{can_read}
 use Rattle.window.specs.Laws.{true_inside, part}
 use Rattle.prog.specs.Prog.{run}
-use Rattle.text.specs.Text.{refused_text, has_nul, before_nul, judged, text_p}
+use Rattle.refusal.specs.declared.Refusal.{Refusal}
+use Rattle.text.specs.Text.{read_item, refused_text, bytes_of, has_nul, before_nul, judged, text_p}
+use Rattle.text.specs.declared.Text.{Text as Str}
+use Rattle.text.specs.declared.ReadString.{ReadString}
 use Rattle.text.proofs.Laws.Nul.{before_shorter, before_all}
-use Rattle.text.proofs.Laws.Chunks.{text_below, rest_p, chunk_after, text_start, chunks_none, chunks_ended, chunks_found, chunks_next}
+use Rattle.text.proofs.Laws.Chunks.{text_accepted, text_below, rest_p, chunk_after, text_start, chunks_none, chunks_ended, chunks_found, chunks_next}
 
 -- the first NUL, as the code looks for it, stands where the bytes before it end
 nul_step : (b : ℕ) (s : List ℕ) → length (before_nul (b ∷ s)) ≡ cond (b == 0) 0 (1 + length (before_nul s))
@@ -28,7 +33,19 @@ nul_position s =
     (λ e. rw (← nul_counted s, e, lt-ltb (length (before_nul s)) (length s) (before_shorter s e)))
     (λ e. let l = ap length (before_all s e) in rw (← nul_counted s, e, le-ltb (length (before_nul s)) (length s) (omega arith)))
 
--- what is known where n bytes are read: so many chunks are left, and they give the wholreadables answer
+-- a string of n bytes, handed back as they stand at the pointer: they are the string's
+held : (x : List ℕ) (base pointer n : ℕ) → pointer - base + n ≤ length x → (r : Result ReadString Refusal)
+    → IfOk r (λ s. s.part.now ≡ take n (drop (pointer - base) x)) → read_item r ≡ run (text_p base pointer) x
+    → IfOk r (λ s. s.part.now ≡ bytes_of x (run (text_p base pointer) x))
+held x base pointer n inside (Err u) e f = tt
+held x base pointer n inside (Ok s) e f =
+    let t = run (text_p base pointer) x in
+    let a = text_accepted x base pointer (sym (ap (λ (t : Str). t.number) f)) in
+    let full : length (take n (drop (pointer - base) x)) ≡ n = length-take-le n (drop (pointer - base) x) (simp length-drop (omega arith)) in
+    let l : t.length ≡ n = sym (ap (λ (t : Str). t.length) f) ∙ ap length e ∙ full in
+    rw (a.starts, l) e
+
+-- what is known where n bytes are read: so many chunks are left, and they give the whole's answer
 pub record Rest (x : List ℕ) (base pointer n : ℕ) : Type 0 where
   pub left : ℕ
   pub whole : n + 64 * left ≡ 1024
@@ -70,6 +87,19 @@ module _ (x : List ℕ) (base pointer n : ℕ) (r : Rest x base pointer n) where
             let k : m ≡ length (before_nul (chunk_after x base pointer n)) = cc (rw f at found) in
             let w : pointer - base + n + m - (pointer - base) ≡ n + m = omega arith in
             rw (w, k) (sym (next ∙ chunks_found x base pointer (r.left - 1) n r.from readable f)))
+            (λ f. clash (cc (rw f at found)))
+
+        -- and the string of those bytes, handed back as they stand in the image
+        pub rest_held : (m : ℕ) → u ≡ Some m → (answer : Result ReadString Refusal)
+            → IfOk answer (λ s. s.part.now ≡ take (pointer - base + n + m - (pointer - base)) (drop (pointer - base) x))
+            → read_item answer ≡ judged (pointer - base) (take (pointer - base + n + m - (pointer - base)) (drop (pointer - base) x))
+            → IfOk answer (λ s. s.part.now ≡ bytes_of x (run (text_p base pointer) x))
+        rest_held m e answer same judge =
+            cases (has_nul (chunk_after x base pointer n))
+            (λ f.
+            let k : m ≡ length (before_nul (chunk_after x base pointer n)) = cc (rw f at found) in
+            let short : m < 64 = omega (arith, k, before_shorter (chunk_after x base pointer n) f, length-take 64 (drop (pointer - base + n) x)) in
+            held x base pointer (pointer - base + n + m - (pointer - base)) (omega (arith, rest_fits, short)) answer same (judge ∙ rest_judged m e))
             (λ f. clash (cc (rw f at found)))
 
         pub rest_again : u ≡ None → (n + 64 ≤ 1024) × Rest x base pointer (n + 64)

@@ -1,12 +1,12 @@
 // Strings of the image, read chunk by chunk (parsing.rs).
 #![tactic(auto)]
 
-ghost use Rattle.std.specs.Prelude.{◌≡◌, ◌≤◌, ◌==◌, length, position};
+ghost use Rattle.std.specs.Prelude.{◌≡◌, ◌≤◌, ◌==◌, length, position, IfOk};
 ghost use Rattle.prog.specs.Prog.{run};
-ghost use Rattle.text.specs.Text.{judged, text_item, text_p};
+ghost use Rattle.text.specs.Text.{bytes_of, judged, read_item, text_p};
 
 use refusal::Refusal;
-use text::TextPart;
+use text::ReadString;
 use window::Window;
 
 // A string is read in chunks of 64 bytes, at most 1,024.
@@ -29,25 +29,26 @@ fn nul_at(s: &[u8]) -> Option<usize>
 
 // A string whose NUL was found, from an offset on.
 #[tactic(auto, using(utf8::proofs::Laws::Points::points_length), unfolding(text::specs::Text::judged, utf8::specs::Points::points_of))]
-fn judge(offset: u32, s: &[u8]) -> Result<TextPart, Refusal>
-    requires { length s.now ≤ 1024 }
-    ensures { text_item result ≡ judged offset s.now }
+fn judge(offset: u32, part: &[u8]) -> Result<ReadString<'_>, Refusal>
+    requires { length part.now ≤ 1024 }
+    ensures part { IfOk result (λ s. s.part.now ≡ part.now) }
+    ensures item { read_item result ≡ judged offset part.now }
 {
-    let width = utf8::code_points(s).ok_or(Refusal::NotUtf8)? as u32;
-    let length = s.len() as u32;
-    Ok(TextPart {
+    let width = utf8::code_points(part).ok_or(Refusal::NotUtf8)? as u32;
+    Ok(ReadString {
         offset,
-        length,
+        part,
         width,
     })
 }
 
-// The string at a pointer, chunk by chunk: each must be wholly readable, and the first NUL ends it. By itself, so that the quick way for most
-// strings pays nothing for it.
+// The string at a pointer, chunk by chunk: each must be wholly readable, and the first NUL ends it. It is handed back as that part of the
+// image. By itself, so that the quick way for most strings pays nothing for it.
 #[inline(never)]
 #[tactic(auto, using(crate::proofs::Steps::read))]
-pub fn read_string(w: Window, ptr: u32) -> Result<TextPart, Refusal>
-    ensures { text_item result ≡ run (text_p w.entry.base ptr) w.entry.image.now }
+pub fn read_string<'a>(w: Window<'a>, ptr: u32) -> Result<ReadString<'a>, Refusal>
+    ensures part { IfOk result (λ s. s.part.now ≡ bytes_of w.entry.image.now (run (text_p w.entry.base ptr) w.entry.image.now)) }
+    ensures item { read_item result ≡ run (text_p w.entry.base ptr) w.entry.image.now }
 {
     if ptr < w.base {
         return Err(Refusal::BelowBase);

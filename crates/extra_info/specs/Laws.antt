@@ -8,7 +8,7 @@ use Rattle.refusal.specs.Refusal.{number_of}
 use Rattle.window.specs.Window.{on_from, pointer_number}
 use Rattle.prog.specs.Prog.{run}
 use Rattle.prog.proofs.Laws.Honest.{Honest, honesty}
-use Rattle.prog.proofs.Laws.Record.{front_byte, front_short, pointer_refused, pointer_read}
+use Rattle.prog.proofs.Laws.Record.{front_byte, front_short, pointer_refused_by, pointer_read_from}
 use Rattle.version.specs.declared.FirmwareVersion.{FirmwareVersion}
 use Rattle.version.specs.Version.{from060}
 use Rattle.extra_info.specs.declared.ExtraInfoItem.{ExtraInfoItem}
@@ -42,8 +42,8 @@ module _ (v : FirmwareVersion) where
 module _ (x : List ℕ) (base pointer : ℕ) (v : FirmwareVersion) where
   pub extra_info_pointer_refused : (r : Refusal) → number_of r ≡ pointer_number x base pointer 256 → refused_extra_info (number_of r) ≡ run (extra_info_p base pointer v) x
   unfolding extra_info_p
-  extra_info_pointer_refused = pointer_refused x base pointer 256 refused_extra_info (extra_info_of v) (extra_info_front v)
+  extra_info_pointer_refused = pointer_refused_by x base pointer 256 refused_extra_info (extra_info_of v) (extra_info_front v)
 
   pub extra_info_pointer_read : 0 ≡ pointer_number x base pointer 256 → extra_info_of v (on_from x base pointer) ≡ run (extra_info_p base pointer v) x
   unfolding extra_info_p
-  extra_info_pointer_read = pointer_read x base pointer 256 refused_extra_info (extra_info_of v) (extra_info_front v)
+  extra_info_pointer_read = pointer_read_from x base pointer 256 refused_extra_info (extra_info_of v) (extra_info_front v)

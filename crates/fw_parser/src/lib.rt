@@ -83,7 +83,7 @@ fn report(fields: SdrrInfoFields, records: Records, walk: Result<u32, Refusal>) 
     let extra_info = records.extra_info;
     let source = records.sets;
     let metadata = metadata::metadata_shown(source.metadata);
-    let rom_sets = sets_item::sets_item(walk, source.rom_set_count());
+    let rom_sets = sets_item::sets_item(walk_number(walk), source.rom_set_count());
     let pins = records.pins;
     SdrrInfo {
         fields,

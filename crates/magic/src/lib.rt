@@ -5,9 +5,8 @@ ghost use Rattle.std.specs.Prelude.{◌≡◌};
 ghost use Rattle.magic.specs.Magic.{starts_with};
 
 // Whether s starts with the bytes of m.
-#[tactic(auto, using(crate::proofs::Front::front_is))]
 pub fn starts_with(s: &[u8], m: &[u8]) -> bool
     ensures { result ≡ starts_with s.now m.now }
 {
-    s.starts_with(m)
+    m.len() <= s.len() && s.iter().zip(m).all(|(a, b)| a == b)
 }

@@ -11,6 +11,9 @@ use Rattle.rom_rules.specs.Code.{bit_number}
 use lib.ListN.{length, get_or, drop, drop_of_length-le}
 use lib.Seq.{drop-cons}
 use Rattle.demangle.specs.Bits.{is_bit}
+use Rattle.demangle.specs.Laws.{taken_lt}
+use Rattle.pin_words.specs.Laws.{on_lt}
+use Rattle.mangle.specs.Laws.Words.{x_lt, control_lt}
 use Rattle.mangle.specs.PinMap.{off, control_off}
 use Rattle.mangle.specs.Code.{on_control, on_controls}
 
@@ -39,6 +42,9 @@ control_end f ps bs i w v h = rw (drop_of_length-le ps h)
 pub high_is : (high : Bool) (n : ℕ) → from_bool high ≡ n → high ≡ eqb n 1
 high_is true n e = rw (← e)
 high_is false n e = rw (← e)
+
+-- what keeps a word in sixteen bits, and a bit below 2
+pub ruleset bounds = (taken_lt, on_lt, x_lt, control_lt)
 
 -- the loops over the control pins, one pin at a time
 pub ruleset steps = (off_on, off_end, control_on, control_end)

@@ -16,12 +16,13 @@ use demangle::bit_of;
 use pin_words::{Placed, put};
 use refusal::Refusal;
 use rom_rules::{GoverningSet, checked_address, control_bits, rules_of};
+use types::SdrrRomType;
 
 #[tactic(auto, using(crate::proofs::Steps::high_is))]
-fn is_high_pin(v: u16, pin: u8) -> bool
+fn is_high_pin(v: u32, pin: u8) -> bool
     ensures { result ≡ is_high_pin v pin }
 {
-    bit_of(u32::from(v), pin)
+    bit_of(v, pin)
 }
 
 // The pins of a record that are no address pins, and what they go down by. The control pins are CS1, CS2, CS3, OE, CE.
@@ -59,7 +60,7 @@ impl OtherPins {
     }
 
     // 72: X1 or X2 is no pin of the sixteen. 73: one of them has an address bit on it.
-    fn check_x(self, mapped: u16) -> Result<(), Refusal>
+    fn check_x(self, mapped: u32) -> Result<(), Refusal>
         ensures { refused_number result ≡ pick (off (x1_of self) || off (x2_of self)) 72 (pick (is_high_pin mapped (x1_of self) || is_high_pin mapped (x2_of self)) 73 0) }
     {
         let x1 = self.x1();
@@ -95,9 +96,9 @@ impl OtherPins {
         false
     }
 
-    // 72 to 76. X1 and X2 are tested before either is written.
+    // X1 and X2 are tested before either is written.
     #[tactic(auto, unfolding(crate::specs::Code::word_number))]
-    pub fn check(self, mapped: u16, set: GoverningSet) -> Result<(), Refusal>
+    fn check_word(self, mapped: u32, set: GoverningSet) -> Result<(), Refusal>
         ensures { refused_number result ≡ word_number mapped (x1_of self) (x2_of self) (controls_of self) «set».rom_count «set».rom_type }
     {
         if set.has_several_roms() {
@@ -113,6 +114,14 @@ impl OtherPins {
             return Err(Refusal::ControlPinOff);
         }
         Ok(())
+    }
+
+    // 72 to 76, with the pins that address bits are on.
+    #[inline]
+    pub fn check(self, mapped: u16, set: GoverningSet) -> Result<(), Refusal>
+        ensures { refused_number result ≡ word_number mapped (x1_of self) (x2_of self) (controls_of self) «set».rom_count «set».rom_type }
+    {
+        self.check_word(u32::from(mapped), set)
     }
 
     #[tactic(auto, unfolding(crate::specs::Code::on_x))]
@@ -171,5 +180,33 @@ impl OtherPins {
     {
         checked_address(self.check(placed.mapped, set), set.rom_type, address)?;
         Ok(u32::from(self.whole_word(placed.value, set, word)))
+    }
+}
+
+// 72 to 76 as a number, 0 for none: of pins that go down by k, with the pins that address bits are on.
+pub fn map_number(
+    k: u8,
+    mapped: u32,
+    x1: u8,
+    x2: u8,
+    controls: [u8; 5],
+    rom_count: u32,
+    rom_type: SdrrRomType,
+) -> u8
+    ensures { result ≡ word_number mapped (lowered k x1) (lowered k x2) (map (lowered k) controls) rom_count rom_type }
+{
+    let others = OtherPins {
+        lowered_by: k,
+        x1,
+        x2,
+        controls,
+    };
+    let set = GoverningSet {
+        rom_count,
+        rom_type,
+    };
+    match others.check_word(mapped, set) {
+        Ok(_) => 0,
+        Err(refusal) => refusal.number(),
     }
 }

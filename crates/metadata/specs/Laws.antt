@@ -10,7 +10,7 @@ use Rattle.refusal.specs.Refusal.{number_of}
 use Rattle.window.specs.Window.{on_from, pointer_number}
 use Rattle.prog.specs.Prog.{run}
 use Rattle.prog.proofs.Laws.Honest.{Honest, honesty}
-use Rattle.prog.proofs.Laws.Record.{front_byte, front_short, front_starts, pointer_refused, pointer_read}
+use Rattle.prog.proofs.Laws.Record.{front_byte, front_short, front_starts, pointer_refused_by, pointer_read_from}
 use Rattle.metadata.specs.Metadata.{MetadataAnswer, metadata_magic, refused_metadata, metadata_of, metadata_p}
 
 pub metadata_honest : (base pointer : ℕ) → Honest (λ (a : MetadataAnswer). a.number ≡ 2) (metadata_p base pointer)
@@ -50,8 +50,8 @@ module _ (s : List ℕ) where
 module _ (x : List ℕ) (base pointer : ℕ) where
   pub metadata_pointer_refused : (r : Refusal) → number_of r ≡ pointer_number x base pointer 256 → refused_metadata (number_of r) ≡ run (metadata_p base pointer) x
   unfolding metadata_p
-  metadata_pointer_refused = pointer_refused x base pointer 256 refused_metadata metadata_of metadata_front
+  metadata_pointer_refused = pointer_refused_by x base pointer 256 refused_metadata metadata_of metadata_front
 
   pub metadata_pointer_read : 0 ≡ pointer_number x base pointer 256 → metadata_of (on_from x base pointer) ≡ run (metadata_p base pointer) x
   unfolding metadata_p
-  metadata_pointer_read = pointer_read x base pointer 256 refused_metadata metadata_of metadata_front
+  metadata_pointer_read = pointer_read_from x base pointer 256 refused_metadata metadata_of metadata_front

@@ -15,6 +15,7 @@ use mangle::map::OtherPins;
 use pin_words::address_pins;
 use refusal::Refusal;
 use rom_rules::{GoverningSet, control_bits};
+use types::SdrrRomType;
 
 // Pin takes bit; a pin past the sixteen is left out.
 fn put(pins: &mut [u8], pin: u8, bit: u8)
@@ -92,6 +93,20 @@ pub fn check_pin_map(pins: BoardPins, set: GoverningSet) -> Result<(), Refusal>
     let least = least_pin(pins);
     let placed = address_pins(least, pins.addr, 0);
     OtherPins::of(pins, least).check(placed.mapped, set)
+}
+
+// The same as a number, 0 for none, of any count and type.
+pub fn pin_map_number(pins: BoardPins, rom_count: u32, rom_type: SdrrRomType) -> u8
+    ensures { result ≡ (pin_map pins rom_count rom_type).number }
+{
+    let set = GoverningSet {
+        rom_count,
+        rom_type,
+    };
+    match check_pin_map(pins, set) {
+        Ok(_) => 0,
+        Err(refusal) => refusal.number(),
+    }
 }
 
 // The map of a pins record, by the set that governs: which input bit each of the sixteen pins takes, 255 for none.

@@ -51,6 +51,12 @@ level_bits v q b l = go b l
         ap (λ (y : ℕ). bit_xor (bit_or v q) y) none ∙ xor_zero_r (bit_or v q) ∙ omega arith
     go (suc (suc n)) h = absurd (omega arith)
 
+-- the other level
+pub other_level : (b : ℕ) → b < 2 → bit_xor b 1 ≡ 1 - b
+other_level zero h = xor_zero_l 1
+other_level (suc zero) h = xor_self 1
+other_level (suc (suc n)) h = absurd (omega arith)
+
 -- ---- one pin
 
 pub and_bit : (v p : ℕ) → bit_and v (2 ^ p) ≡ bit_at v p * 2 ^ p

@@ -7,7 +7,7 @@ use Rattle.refusal.specs.Refusal.{number_of}
 use Rattle.window.specs.Window.{on_from, pointer_number}
 use Rattle.prog.specs.Prog.{run}
 use Rattle.prog.proofs.Laws.Honest.{Honest, honesty}
-use Rattle.prog.proofs.Laws.Record.{front_byte, front_short, pointer_refused, pointer_read}
+use Rattle.prog.proofs.Laws.Record.{front_byte, front_short, pointer_refused_by, pointer_read_from}
 use Rattle.pins.specs.declared.PinsItem.{PinsItem}
 use Rattle.pins.specs.Pins.{pins_fields, refused_pins, unknown_port, pins_of, pins_p}
 
@@ -37,8 +37,8 @@ module _ (s : List ℕ) where
 module _ (x : List ℕ) (base pointer : ℕ) where
   pub pins_pointer_refused : (r : Refusal) → number_of r ≡ pointer_number x base pointer 88 → refused_pins (number_of r) ≡ run (pins_p base pointer) x
   unfolding pins_p
-  pins_pointer_refused = pointer_refused x base pointer 88 refused_pins pins_of pins_front
+  pins_pointer_refused = pointer_refused_by x base pointer 88 refused_pins pins_of pins_front
 
   pub pins_pointer_read : 0 ≡ pointer_number x base pointer 88 → pins_of (on_from x base pointer) ≡ run (pins_p base pointer) x
   unfolding pins_p
-  pins_pointer_read = pointer_read x base pointer 88 refused_pins pins_of pins_front
+  pins_pointer_read = pointer_read_from x base pointer 88 refused_pins pins_of pins_front

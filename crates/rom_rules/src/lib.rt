@@ -1,10 +1,11 @@
 // What mangling goes by for each type of ROM (info.rs `mangle_address`): its mask and control pins, 77 and 78.
 #![tactic(auto)]
 
-ghost use Rattle.std.specs.Prelude.{◌≡◌, map};
+ghost use Rattle.std.specs.Prelude.{◌≡◌, true, map, IfSome};
+ghost use Rattle.std.specs.List.{list_all};
 ghost use Rattle.refusal.specs.Refusal.{refused_number};
 ghost use Rattle.rom_rules.specs.Rules.{rules_of, mask, control_bits, several, mangle_number};
-ghost use Rattle.rom_rules.specs.Code.{bit_number, shown_rules};
+ghost use Rattle.rom_rules.specs.Code.{bit_number, is_input, rule_bits, shown_rules};
 
 use refusal::Refusal;
 use types::SdrrRomType;
@@ -79,7 +80,8 @@ impl TypeRules {
 // None: logical reads do not cover the type.
 #[tactic(auto, unfolding(crate::specs::Rules::rules_of))]
 pub fn rules_of(rom_type: SdrrRomType) -> Option<TypeRules>
-    ensures { shown_rules result ≡ rules_of rom_type }
+    ensures shown { shown_rules result ≡ rules_of rom_type }
+    ensures bits { IfSome result (λ r. list_all is_input (rule_bits r) ≡ true) }
 {
     Some(match rom_type {
         SdrrRomType::Rom2364 => selected(0x1FFF, 13, None, None).raising(13, None, None),
@@ -129,11 +131,26 @@ fn mask(rom_type: SdrrRomType) -> u32
 
 // The input bits of the control pins, in the order in which they are written: CS1, CS2, CS3, OE, CE.
 pub fn control_bits(rom_type: SdrrRomType) -> [Option<u8>; 5]
-    ensures { map bit_number result ≡ control_bits rom_type }
+    ensures shown { map bit_number result ≡ control_bits rom_type }
+    ensures bits { list_all is_input result ≡ true }
 {
     match rules_of(rom_type) {
         Some(r) => [r.cs1, r.cs2, r.cs3, r.oe, r.ce],
         None => [None; 5],
+    }
+}
+
+// The map's number first, whichever it is, then 77, then 78.
+#[tactic(auto, unfolding(crate::specs::Rules::mangle_number))]
+pub fn mangle_number(n: u8, rom_type: SdrrRomType, address: u32) -> u8
+    ensures { result ≡ mangle_number n rom_type address }
+{
+    if n != 0 {
+        return n;
+    }
+    match checked_address(Ok(()), rom_type, address) {
+        Ok(_) => 0,
+        Err(refusal) => refusal.number(),
     }
 }
 

@@ -3,8 +3,9 @@
 use Prim.Native.Nat.{ℕ, zero, suc, pred, ◌+◌, ◌-◌, ◌*◌, ◌≤◌, ◌<◌}
 use native.Mathlib.Omega.{arith}
 use Rattle.std.proofs.Common.{add-zero, add-one, mul-suc, sub-one, sym, ap, ◌∙◌, length-drop, drop-cons, drop_of_length-le}
-use Rattle.std.specs.Prelude.{◌≡◌, Bool, not, ◌||◌, List, [], ◌∷◌, eqb, get_or}
-use Rattle.std.specs.List.{list_any, list_all, range_with_len}
+use Rattle.std.specs.Prelude.{◌≡◌, ◌/◌, Bool, not, ◌||◌, List, [], ◌∷◌, eqb, get_or, map, take}
+use Rattle.std.specs.List.{list_any, list_all, range_with_len, zip}
+use Rattle.std.specs.Simd.{first_chunks}
 use Rattle.std.proofs.lemmas.List.{get_or_past}
 use Rattle.std.proofs.Math.Path.{refl}
 use Rattle.std.proofs.Math.Bool.{true, false}
@@ -16,7 +17,7 @@ use Rattle.base.specs.Laws.{clash, cases}
 use Rattle.rows.specs.LentRows.{rom_row_length, has_set_row, size_of, first_rom, rom_count, serve_of, type_word}
 use Rattle.rows.specs.Laws.{width_altered, altered_length, altered_types}
 use Rattle.set_data.specs.Data.{unvalued}
-use Rattle.same_set.specs.Same.{types_in, types, any_above33, bad_set, compared, equal, same_set}
+use Rattle.same_set.specs.Same.{type_of, types_in, types, any_above33, bad_set, compared, equal, same_set}
 
 -- ---- the types of ROM rows, one by one
 
@@ -31,6 +32,32 @@ module _ (words : List ℕ) (at left : ℕ) where
       go : (n : ℕ) → (n ≡ 0 → ⊥) → types_in (get_or words at 0 ∷ drop (suc at) words) n ≡ get_or words at 0 ∷ types_in (drop (at + rom_row_length) words) (n - 1)
       go zero j = absurd (j refl)
       go (suc n) j = rw (after, sub-one (suc n))
+
+  pub above_found : at < length words → (left ≡ 0 → ⊥) → 33 < get_or words at 0 → true ≡ any_above33 (types_in (drop at words) left)
+  unfolding any_above33
+  above_found h i j = rw (types_cons h i, lt-ltb 33 (get_or words at 0) j)
+
+  pub above_next : at < length words → (left ≡ 0 → ⊥) → get_or words at 0 ≤ 33 → any_above33 (types_in (drop (at + rom_row_length) words) (left - 1)) ≡ any_above33 (types_in (drop at words) left)
+  unfolding any_above33
+  above_next h i j = rw (types_cons h i, le-ltb 33 (get_or words at 0) j)
+
+  pub above_none : left ≡ 0 → false ≡ any_above33 (types_in (drop at words) left)
+  unfolding any_above33 types_in
+  above_none e = rw e
+
+module _ (a b : List ℕ) (at left : ℕ) where
+  pub types_differ : at < length a → at < length b → (left ≡ 0 → ⊥) → (get_or a at 0 ≡ get_or b at 0 → ⊥) → false ≡ equal (types_in (drop at a) left) (types_in (drop at b) left)
+  unfolding equal
+  types_differ h i j e = rw (types_cons a at left h j, types_cons b at left i j, ne_eqb (get_or a at 0) (get_or b at 0) e)
+
+  pub types_next : at < length a → at < length b → (left ≡ 0 → ⊥) → get_or a at 0 ≡ get_or b at 0
+      → equal (types_in (drop (at + rom_row_length) a) (left - 1)) (types_in (drop (at + rom_row_length) b) (left - 1)) ≡ equal (types_in (drop at a) left) (types_in (drop at b) left)
+  unfolding equal
+  types_next h i j e = rw (types_cons a at left h j, types_cons b at left i j, eq-eqb (get_or a at 0) (get_or b at 0) e)
+
+  pub types_same : left ≡ 0 → true ≡ equal (types_in (drop at a) left) (types_in (drop at b) left)
+  unfolding equal types_in
+  types_same e = rw e
 
 -- none past the end
 none_above : (n : ℕ) → any_above33 (types_in [] n) ≡ false
@@ -67,6 +94,33 @@ module _ (a b : List ℕ) where
       let c = mul-suc rom_row_length n in
       let later = same_by_rows n (suc row) (omega arith) (omega arith) in
       rw (add-zero, add-one, types_cons a at (suc n) (omega arith) some, types_cons b at (suc n) (omega arith) some, next, sub-one, later)
+
+-- ---- whole rows, by their types
+
+pub types_of_rows : (n m : ℕ) (words : List ℕ) → rom_row_length * n ≤ length words → n ≤ m → map type_of (take n (first_chunks rom_row_length m words)) ≡ types_in words n
+unfolding types_in
+types_of_rows zero m words h k = refl
+types_of_rows (suc n) zero words h k = absurd (omega arith)
+types_of_rows (suc n) (suc m) [] h k = absurd (omega (arith, mul-suc rom_row_length n))
+types_of_rows (suc n) (suc m) (t ∷ words) h k =
+    let c = mul-suc rom_row_length n in
+    let later : length (drop (pred rom_row_length) words) ≡ length words - pred rom_row_length = length-drop (pred rom_row_length) words in
+    ap (λ (ts : List ℕ). t ∷ ts) (types_of_rows n m (drop (pred rom_row_length) words) (omega arith) (omega arith))
+
+pub enough_whole : (n : ℕ) (words : List ℕ) → rom_row_length * n ≤ length words → n ≤ length words / rom_row_length
+enough_whole n words h = omega arith
+
+pub any_whole : (rows : List (List ℕ)) → list_any (λ (r : List ℕ). ltb 33 (type_of r)) rows ≡ any_above33 (map type_of rows)
+unfolding any_above33
+any_whole [] = refl
+any_whole (r ∷ rows) = rw (any_whole rows)
+
+pub same_whole : (a b : List (List ℕ)) → length a ≡ length b → list_all (λ (p : List ℕ × List ℕ). eqb (type_of p.0) (type_of p.1)) (zip a b) ≡ equal (map type_of a) (map type_of b)
+unfolding equal
+same_whole [] [] h = refl
+same_whole [] (s ∷ b) h = absurd (omega arith)
+same_whole (r ∷ a) [] h = absurd (omega arith)
+same_whole (r ∷ a) (s ∷ b) h = rw (same_whole a b (omega arith))
 
 -- ---- a set that can't be compared
 

@@ -1,7 +1,8 @@
 -- Document 01, "Same set".
 use Rattle.std.specs.Prelude.{ℕ, zero, suc, pred, ◌+◌, ◌*◌, Bool, true, false, not, ◌&&◌, ◌||◌, List, [], ◌∷◌, ltb, leb, eqb, length, drop, Result, Ok, Err}
 use Rattle.base.specs.Choice.{pick}
-use Rattle.rows.specs.LentRows.{rom_row_length, has_set_row, first_rom, rom_count, size_of, serve_of}
+use Rattle.rows.specs.declared.RomWord.{RomWord}
+use Rattle.rows.specs.LentRows.{rom_row_length, rom_word, has_set_row, first_rom, rom_count, size_of, serve_of}
 use Rattle.refusal.specs.declared.Refusal.{Refusal}
 use Rattle.refusal.specs.Refusal.{Valued, number_of}
 use Rattle.set_data.specs.Data.{unvalued}
@@ -11,6 +12,10 @@ unfoldable pub types_in : List ℕ → ℕ → List ℕ
 types_in words zero = []
 types_in [] (suc n) = []
 types_in (t ∷ words) (suc n) = t ∷ types_in (drop (pred rom_row_length) words) n
+
+-- the type of a whole row
+abbrev pub type_of : List ℕ → ℕ
+type_of row = rom_word row 0 RomWord.Type
 
 -- the types of a set's ROM rows, in order
 abbrev pub types : (sets roms : List ℕ) → ℕ → List ℕ

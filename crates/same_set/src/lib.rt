@@ -1,12 +1,12 @@
 // Same set (document 01; the Rust has no such call): by the rows as lent.
 #![tactic(auto)]
 
-ghost use Rattle.std.specs.Prelude.{◌≡◌, false, ◌*◌, ◌≤◌, length, drop};
+ghost use Rattle.std.specs.Prelude.{◌≡◌, false, ◌*◌, ◌≤◌, length, drop, map};
 ghost use Rattle.rows.specs.LentRows.{rom_row_length};
-ghost use Rattle.same_set.specs.Same.{types_in, any_above33, bad_set, compared, equal, same_set, same_item};
+ghost use Rattle.same_set.specs.Same.{type_of, types_in, any_above33, bad_set, compared, equal, same_set, same_item};
 
 use refusal::Refusal;
-use rows::{LentRows, RomWord, SetWord};
+use rows::{LentRows, ROM_WORDS, RomWord, SetWord};
 
 // The words from a ROM row on; none where it lies past their end.
 fn from_row(rom_rows: &[u32], row: u32) -> &[u32]
@@ -17,19 +17,38 @@ fn from_row(rom_rows: &[u32], row: u32) -> &[u32]
         .unwrap_or(&[])
 }
 
-// Whether one of the first ROM rows, so many of them, has a type above 33.
-fn any_above_33(words: &[u32], count: u32) -> bool
-    ensures { result ≡ any_above33 (types_in words.now count) }
+// The first ROM rows, so many of them. By their places a comparison of many types took twice as long.
+#[tactic(auto, using(crate::specs::Laws::types_of_rows, crate::specs::Laws::enough_whole))]
+fn first_rows(words: &[u32], count: u32) -> &[[u32; ROM_WORDS]]
+    requires { rom_row_length * count ≤ length words.now }
+    ensures len { length result.now ≡ count }
+    ensures types { map type_of result.now ≡ types_in words.now count }
 {
-    (0..count).any(|k| 33 < rows::rom_word(words, k, RomWord::Type))
+    let (whole, _) = words.as_chunks::<ROM_WORDS>();
+    &whole[..count as usize]
 }
 
-// Whether the types of the first ROM rows, so many of them, agree.
+fn type_of(row: &[u32; ROM_WORDS]) -> u32
+    ensures { result ≡ type_of row.now }
+{
+    rows::rom_word(row, 0, RomWord::Type)
+}
+
+// Whether one of the first ROM rows, so many of them, has a type above 33.
+fn any_above_33(words: &[u32], count: u32) -> bool
+    requires { rom_row_length * count ≤ length words.now }
+    ensures { result ≡ any_above33 (types_in words.now count) }
+{
+    first_rows(words, count).iter().any(|row| 33 < type_of(row))
+}
+
+// Whether the types of the first ROM rows, so many of them, agree. No derive compares them: of each row this is one word of the eight.
 fn same_types(a: &[u32], b: &[u32], count: u32) -> bool
     requires { (rom_row_length * count ≤ length a.now) × (rom_row_length * count ≤ length b.now) }
     ensures { result ≡ equal (types_in a.now count) (types_in b.now count) }
 {
-    (0..count).all(|k| rows::rom_word(a, k, RomWord::Type) == rows::rom_word(b, k, RomWord::Type))
+    let mut pairs = first_rows(a, count).iter().zip(first_rows(b, count));
+    pairs.all(|(x, y)| type_of(x) == type_of(y))
 }
 
 // 4: the set's row or one of its ROM rows isn't among those lent, or a type is above 33. Only rows that are lent are looked at.

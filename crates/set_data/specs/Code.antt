@@ -3,17 +3,8 @@ use Rattle.std.specs.Prelude.{ℕ, ◌+◌, ◌-◌, not, List, ltb, eqb}
 use Rattle.base.specs.Choice.{pick}
 use Rattle.window.specs.Window.{can_read}
 use Rattle.rows.specs.LentRows.{set_number, data_pointer, size_of}
-
--- what a read needs of a set: 80, 4 or 0, and of its row the data pointer and the size
-pub record SetData : Type 0 where
-  pub number : ℕ
-  pub pointer : ℕ
-  pub size : ℕ
-
--- where bytes of a set start in the image; or a number, with 0
-pub record Found : Type 0 where
-  pub number : ℕ
-  pub at : ℕ
+use Rattle.set_data.specs.declared.SetData.{SetData}
+use Rattle.set_data.specs.declared.Found.{Found}
 
 abbrev pub set_data : (served : ℕ) → List ℕ → ℕ → SetData
 set_data served sets set = record { number = set_number served sets set; pointer = data_pointer sets set; size = size_of sets set }

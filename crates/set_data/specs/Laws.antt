@@ -12,7 +12,9 @@ use Rattle.prog.specs.Prog.{done, fetch, run}
 use Rattle.prog.proofs.Laws.Run.{run_done, run_failed, run_got}
 use Rattle.rows.specs.LentRows.{set_number, data_pointer, size_of}
 use Rattle.set_data.specs.Data.{unvalued, size_call, Bytes, no_bytes, data_p}
-use Rattle.set_data.specs.Code.{SetData, Found, set_data, not_found, found_of}
+use Rattle.set_data.specs.declared.SetData.{SetData}
+use Rattle.set_data.specs.declared.Found.{Found}
+use Rattle.set_data.specs.Code.{set_data, not_found, found_of}
 
 -- ---- size
 

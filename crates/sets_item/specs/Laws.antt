@@ -39,6 +39,22 @@ module _ (x : List ℕ) (base : ℕ) (f : SdrrInfoFields) (s : SourceShown) wher
     pub set_rows : t ≡ rows.walk_set_rows (walk_of base f s x) (length lr) ls
     pub rom_rows : u ≡ rows.walk_rom_rows (walk_of base f s x) (run (walk_names_p base (walk_of base f s x)) x) (length ls) lr
 
+  module _ (ls lr : List ℕ) where
+    -- by what the walk is
+    walks : (w : Part (List RomSet)) → walk_of base f s x ≡ w → (v : ℕ) (t u : List ℕ) → v ≡ (rows.walk_reply w (length ls) (length lr)).number
+        → t ≡ rows.walk_set_rows w (length lr) ls → u ≡ rows.walk_rom_rows w (run (walk_names_p base w) x) (length ls) lr → Walks ls lr v t u
+    walks w e v t u k g h = record { reply = rw e k; set_rows = rw e g; rom_rows = rw e h }
+
+    pub by_ended : s.ended ≡ true → Walks ls lr 2 ls lr
+    unfolding rows.walk_reply rows.walk_set_rows rows.walk_rom_rows
+    by_ended e = walks (stop 2 []) (walk_ended e) 2 ls lr refl refl refl
+
+    pub by_made : s.ended ≡ false → (r : rows.Walked) (t u : List ℕ) → r ≡ rows.walk_reply (run (walk_p base f s.rom_set_count s.rom_sets_ptr) x) (length ls) (length lr)
+        → t ≡ rows.walk_set_rows (run (walk_p base f s.rom_set_count s.rom_sets_ptr) x) (length lr) ls
+        → u ≡ rows.walk_rom_rows (run (walk_p base f s.rom_set_count s.rom_sets_ptr) x) (run (walk_names_p base (run (walk_p base f s.rom_set_count s.rom_sets_ptr) x)) x) (length ls) lr
+        → Walks ls lr r.number t u
+    by_made e r t u k g h = walks (run (walk_p base f s.rom_set_count s.rom_sets_ptr) x) (walk_made e) r.number t u (ap (λ (w : rows.Walked). w.number) k) g h
+
   pub left_numbered : Numbered (walk_of base f s x)
   left_numbered =
       cases s.ended

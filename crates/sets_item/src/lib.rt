@@ -2,7 +2,6 @@
 #![tactic(auto)]
 
 ghost use Rattle.std.specs.Prelude.{◌≡◌, length};
-ghost use Rattle.refusal.specs.Refusal.{refused_number};
 ghost use Rattle.prog.specs.Prog.{run};
 ghost use Rattle.walk.specs.Names.{walk_names_p};
 ghost use Rattle.rom_rows.specs.Reply as rows;
@@ -24,13 +23,10 @@ pub struct SetsItem {
 
 // The sets served are the set count where the walk is accepted, otherwise none.
 #[tactic(auto, unfolding(crate::specs::Code::item_of))]
-pub fn sets_item(walk: Result<u32, Refusal>, count: u8) -> SetsItem
-    ensures { result ≡ item_of (refused_number walk) count }
+pub fn sets_item(number: u8, count: u8) -> SetsItem
+    ensures { result ≡ item_of number count }
 {
-    let (number, served) = match walk {
-        Ok(_) => (0, count as u32),
-        Err(refusal) => (refusal.number(), 0),
-    };
+    let served = if number == 0 { count as u32 } else { 0 };
     SetsItem {
         number,
         rom_set_count: count,

@@ -164,14 +164,23 @@ fn case_m3() -> Answer<1>
     address_answer(&addr, 13, 8192)
 }
 
+// A line of many words, piece by piece.
+fn show<const N: usize>(rt: &impl Print, name: &str, answer: Answer<N>) -> io::Result<()> {
+    print!(rt; "{name} {}", answer.number)?;
+    for word in &answer.words {
+        print!(rt; " {word}")?;
+    }
+    println!(rt)
+}
+
 fn main(rt: HostRuntime) -> io::Result<()> {
-    println!(rt; "R1 {}", case_r1())?;
-    println!(rt; "R2 {}", case_r2())?;
-    println!(rt; "R3 {}", case_r3())?;
-    println!(rt; "R4 {}", case_r4())?;
-    println!(rt; "T1 {}", case_t1())?;
-    println!(rt; "T2 {}", case_t2())?;
-    println!(rt; "T3 {}", case_t3())?;
+    show(&rt, "R1", case_r1())?;
+    show(&rt, "R2", case_r2())?;
+    show(&rt, "R3", case_r3())?;
+    show(&rt, "R4", case_r4())?;
+    show(&rt, "T1", case_t1())?;
+    show(&rt, "T2", case_t2())?;
+    show(&rt, "T3", case_t3())?;
     println!(rt; "D1 {}", case_d1())?;
     println!(rt; "D2 {}", case_d2())?;
     println!(rt; "M1 {}", case_m1())?;

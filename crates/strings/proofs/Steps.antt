@@ -16,9 +16,16 @@ use Rattle.utf8.specs.Utf8.{is_utf8}
 use Rattle.utf8.specs.Points.{points}
 use Rattle.text.specs.Text.{accepted_text, has_nul, before_nul, judged, text_p}
 use Rattle.text.proofs.Laws.Nul.{before_front, before_all}
-use Rattle.text.proofs.Laws.Chunks.{chunk_after, text_start, chunks_found}
+use Rattle.text.proofs.Laws.Chunks.{text_accepted, chunk_after, text_start, chunks_found}
+use Rattle.text.specs.declared.Text.{Text as Str}
 use Rattle.strings.specs.Code.{ascii_front}
 use Rattle.strings.specs.Laws.Ascii.{ascii_utf8, ascii_points, ascii_before}
+
+-- an accepted string is short
+pub read_short : (x : List ℕ) (base pointer offset len wide : ℕ) → accepted_text offset len wide ≡ run (text_p base pointer) x → len < 1024
+read_short x base pointer offset len wide e =
+    let a = text_accepted x base pointer (sym (ap (λ (t : Str). t.number) e)) in
+    omega (arith, a.short, ap (λ (t : Str). t.length) e)
 
 -- the first byte that is NUL or no ASCII, as the code looks for it, stands where the ASCII front ends
 front_step : (b : ℕ) (s : List ℕ) → length (ascii_front (b ∷ s)) ≡ cond (b == 0 || nat_lt 127 b) 0 (1 + length (ascii_front s))

@@ -4,6 +4,7 @@
 ghost use Rattle.std.specs.Prelude.{◌≡◌, ◌==◌, ◌||◌, nat_lt, position, IfSome, Ok};
 ghost use Rattle.prog.specs.Prog.{run};
 ghost use Rattle.text.specs.Text.{text_item, text_p};
+ghost use Rattle.strings.specs.Code.{ShortAscii};
 
 use chunks::CHUNK;
 use refusal::Refusal;
@@ -20,7 +21,8 @@ fn ascii_end(s: &[u8]) -> Option<usize>
 // A string that is ASCII and ends in its first chunk, as most do: its length is its width too, and its bytes need no second look.
 #[inline(always)]
 fn short_ascii(w: Window, ptr: u32) -> Option<TextPart>
-    ensures { IfSome result (λ t. text_item (Ok t) ≡ run (text_p w.entry.base ptr) w.entry.image.now) }
+    ensures told { IfSome result (λ t. text_item (Ok t) ≡ run (text_p w.entry.base ptr) w.entry.image.now) }
+    ensures short { IfSome result (λ t. ShortAscii w.entry.image.now w.entry.base ptr t.length) }
 {
     let offset = ptr.checked_sub(w.base)?;
     let from = offset as usize;
@@ -44,6 +46,14 @@ pub fn read_string_at_ptr(w: Window, ptr: u32) -> Result<TextPart, Refusal>
 {
     match short_ascii(w, ptr) {
         Some(part) => Ok(part),
-        None => chunks::read_string(w, ptr),
+        None => {
+            let read = chunks::read_string(w, ptr)?;
+            let length = read.part.len() as u32;
+            Ok(TextPart {
+                offset: read.offset,
+                length,
+                width: read.width,
+            })
+        },
     }
 }

@@ -9,6 +9,7 @@ use Rattle.refusal.specs.Refusal.{number_of}
 use Rattle.refusal.specs.declared.Refusal.{Refusal}
 use Rattle.text.specs.declared.Text.{Text as Str}
 use Rattle.text.specs.declared.TextPart.{TextPart}
+use Rattle.text.specs.declared.ReadString.{ReadString}
 
 -- an accepted string is that part of the image, without its NUL, and gives its width
 abbrev pub accepted_text : ℕ → ℕ → ℕ → Str
@@ -22,6 +23,11 @@ refused_text n = record { number = n; offset = 0; length = 0; width = 0 }
 abbrev pub text_item : Result TextPart Refusal → Str
 text_item (Ok p) = accepted_text p.offset p.length p.width
 text_item (Err r) = refused_text (number_of r)
+
+-- the same of its reader's answer, whose part is as long as the string
+abbrev pub read_item : Result ReadString Refusal → Str
+read_item (Ok s) = accepted_text s.offset (length s.part.now) s.width
+read_item (Err r) = refused_text (number_of r)
 
 -- the bytes of a string
 abbrev pub bytes_of : List ℕ → Str → List ℕ

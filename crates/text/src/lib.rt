@@ -17,6 +17,14 @@ pub struct TextPart {
     pub width: u32,
 }
 
+// An accepted string as its reader hands it back: where it stands in the image, that part of the image, and its width in code points.
+#[derive(Clone, Copy)]
+pub struct ReadString<'a> {
+    pub offset: u32,
+    pub part: &'a [u8],
+    pub width: u32,
+}
+
 // A string as a report holds it: an accepted one with number 0; or the refusal's number, with offset, length and width 0.
 #[derive(Clone, Copy)]
 pub struct Text {

@@ -1,5 +1,5 @@
 -- UTF-8 as document 01, "String", has it: the class of each byte, the second-byte limits, and the string test.
-use Rattle.std.specs.Prelude.{ℕ, zero, suc, ◌-◌, List, [], ◌∷◌, Bool, true, false, cond, ◌&&◌, leb, eqb}
+use Rattle.std.specs.Prelude.{ℕ, zero, suc, ◌-◌, ◌<◌, ◌≡◌, List, [], ◌∷◌, Bool, true, false, cond, ◌&&◌, leb, eqb, get_or}
 
 -- b lies in low..high
 abbrev pub within : ℕ → ℕ → ℕ → Bool
@@ -33,6 +33,10 @@ class_of b =
     (cond (within 0xE0 0xEF b) lead_of_three
     (cond (within 0xF0 0xF4 b) lead_of_four
     never))))
+
+-- A table of the classes: its rule, at each of the 256 byte values.
+pub record ClassTable (table : List ℕ) : Type 0 where
+  pub rule : (b : ℕ) → b < 256 → get_or table b 0 ≡ class_of b
 
 -- a byte of class k begins a character
 abbrev pub begins : ℕ → Bool

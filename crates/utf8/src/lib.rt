@@ -1,22 +1,33 @@
 // The string test of document 01, "String": UTF-8, as RFC 3629 has it.
 #![tactic(auto)]
 
+mod classes;
+
 ghost use Rattle.std.specs.Prelude.{◌≡◌, ◌-◌, Some, None};
 ghost use Rattle.base.specs.Choice.{pick};
-ghost use Rattle.utf8.specs.Utf8.{class_of, begins, within, low_after, high_after, is_utf8};
+ghost use Rattle.utf8.specs.Utf8.{class_of, ClassTable, begins, within, low_after, high_after, is_utf8};
 ghost use Rattle.utf8.specs.Points.{points_of};
 
-// How many continuation bytes follow b where it begins a character.
-#[tactic(auto, unfolding(crate::specs::Utf8::class_of))]
-fn tails_of(b: u8) -> Option<u8>
+use classes::{ALONE, LEAD_OF_FOUR, UTF8_CLASSES};
+
+// The class of b, looked up. The table is lent, so that it stands in memory once and not anew for each byte.
+fn class_of(classes: &[u8; 256], b: u8) -> u8
+    requires { ClassTable classes.now }
+    ensures { result ≡ class_of b }
+{
+    classes[b as usize]
+}
+
+// How many continuation bytes follow b where it begins a character. The class below ALONE wraps, so that one comparison serves both ends.
+fn tails_of(classes: &[u8; 256], b: u8) -> Option<u8>
+    requires { ClassTable classes.now }
     ensures { result ≡ pick (begins (class_of b)) (Some (class_of b - 1)) None }
 {
-    match b {
-        0x00..=0x7F => Some(0),
-        0xC2..=0xDF => Some(1),
-        0xE0..=0xEF => Some(2),
-        0xF0..=0xF4 => Some(3),
-        _ => None,
+    let tails = class_of(classes, b).wrapping_sub(ALONE);
+    if tails < LEAD_OF_FOUR {
+        Some(tails)
+    } else {
+        None
     }
 }
 
@@ -35,9 +46,11 @@ fn continues(last: u8, b: u8) -> bool
 }
 
 // The code points of s, if it is UTF-8: byte by byte, with the number of continuation bytes still lacking and the byte before. A character
-// counts at its first byte.
+// counts at its first byte. By itself, so that its loop holds nothing of its caller's.
+#[inline(never)]
 #[tactic(auto, using(crate::proofs::Steps::answers))]
-pub fn code_points(s: &[u8]) -> Option<usize>
+fn scan(classes: &[u8; 256], s: &[u8]) -> Option<usize>
+    requires { ClassTable classes.now }
     ensures { result ≡ points_of s.now }
 {
     let mut lacks = 0;
@@ -45,7 +58,7 @@ pub fn code_points(s: &[u8]) -> Option<usize>
     let mut points = 0;
     for &b in s {
         if lacks == 0 {
-            lacks = tails_of(b)?;
+            lacks = tails_of(classes, b)?;
             points += 1;
         } else if continues(last, b) {
             lacks -= 1;
@@ -55,6 +68,13 @@ pub fn code_points(s: &[u8]) -> Option<usize>
         last = b;
     }
     if lacks == 0 { Some(points) } else { None }
+}
+
+// The code points of s, if it is UTF-8.
+pub fn code_points(s: &[u8]) -> Option<usize>
+    ensures { result ≡ points_of s.now }
+{
+    scan(&UTF8_CLASSES, s)
 }
 
 // Whether s is UTF-8.

@@ -2,7 +2,7 @@
 #![tactic(auto)]
 
 ghost use Rattle.std.specs.Prelude.{◌≡◌};
-ghost use Rattle.version.specs.Version.{below04, from050, from051, from060, from070};
+ghost use Rattle.version.specs.Version.{before, below04, from050, from051, from060, from070};
 
 // The order is by major, then minor, then patch, then build, as the fields stand.
 #[derive(Clone, Copy, Debug, PartialEq, Eq, PartialOrd, Ord)]
@@ -49,12 +49,19 @@ pub const V0_7_0: FirmwareVersion = FirmwareVersion {
     build: 0,
 };
 
-// Below 0.4 there is no extra pointer.
+// Whether v comes before w.
 #[tactic(auto, using(crate::specs::Laws::lt_is_before))]
+pub fn is_before(v: FirmwareVersion, w: FirmwareVersion) -> bool
+    ensures { result ≡ before v w }
+{
+    v < w
+}
+
+// Below 0.4 there is no extra pointer.
 pub fn below_0_4(v: FirmwareVersion) -> bool
     ensures { result ≡ below04 v }
 {
-    v < V0_4_0
+    is_before(v, V0_4_0)
 }
 
 // Metadata is looked for from 0.5.0.

@@ -63,39 +63,28 @@ impl<'a> Window<'a> {
     }
 }
 
-// Whether a read of n bytes at an address succeeds.
-#[tactic(auto, unfolding(crate::specs::Window::can_read))]
+// Whether a read of n bytes at an address succeeds, of an image and a base.
 pub fn can_read(image: &[u8], base: u32, address: u64, n: usize) -> bool
     ensures { result ≡ can_read image.now base address n }
 {
-    let from = base as u64;
-    if address < from {
-        return false;
-    }
-    if 4294967295 < address {
-        return false;
-    }
-    let offset = (address - from) as usize;
-    if image.len() < offset {
-        return false;
-    }
-    n <= image.len() - offset
+    Window { image, base }.can_read(address, n)
 }
 
-// The image from an address on: all of it below the base, and nothing past its end.
-#[tactic(auto, unfolding(crate::specs::Window::on_from))]
+// The image from an address on, of an image and a base.
 pub fn image_from(image: &[u8], base: u32, address: u64) -> &[u8]
     ensures { result.now ≡ on_from image.now base address }
 {
-    let start = base as u64;
-    if address < start {
-        return image;
+    Window { image, base }.part_from(address)
+}
+
+// 3, 2 or 0: what n bytes at a pointer are refused with.
+pub fn pointer_number(image: &[u8], base: u32, ptr: u32, n: usize) -> u8
+    ensures { result ≡ pointer_number image.now base ptr n }
+{
+    match (Window { image, base }).record_at(ptr, n) {
+        Ok(_) => 0,
+        Err(refusal) => refusal.number(),
     }
-    let at = (address - start) as usize;
-    if image.len() < at {
-        return &image[..0];
-    }
-    &image[at..]
 }
 
 // The base plus the image's length exceeds 2^32.

@@ -15,7 +15,9 @@ use Rattle.mangle.specs.Mangle.{Mangled}
 use Rattle.info.specs.declared.SdrrAddress.{SdrrAddress}
 use Rattle.info.specs.Lent.{Lent, demangled_by, demangle_byte}
 use Rattle.info.specs.Reads.{Bytes, no_bytes, count_number, shown_byte, byte, physical, byte_p, stored_p, finished, read_reply, rom_read}
-use Rattle.set_data.specs.Code.{SetData, Found, set_data, found_of}
+use Rattle.set_data.specs.declared.SetData.{SetData}
+use Rattle.set_data.specs.declared.Found.{Found}
+use Rattle.set_data.specs.Code.{set_data, found_of}
 use Rattle.info.proofs.Laws.Calls.{read_beyond, read_within}
 use Rattle.set_data.specs.Laws.{found_stands, bytes_at, data_found}
 use Rattle.byte_reads.specs.declared.ByteRead.{ByteRead}

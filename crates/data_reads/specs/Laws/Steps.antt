@@ -8,7 +8,9 @@ use Rattle.base.specs.Laws.{cases}
 use Rattle.window.specs.Window.{base_after, beyond_window}
 use Rattle.info.specs.Lent.{Lent}
 use Rattle.info.specs.Reads.{count_number, range, stored_p, finished, Reply, read_reply, refused_reply, rom_read, buffer_left}
-use Rattle.set_data.specs.Code.{SetData, Found, set_data, not_found, found_of}
+use Rattle.set_data.specs.declared.SetData.{SetData}
+use Rattle.set_data.specs.declared.Found.{Found}
+use Rattle.set_data.specs.Code.{set_data, not_found, found_of}
 use Rattle.info.proofs.Laws.Calls.{read_beyond, read_within}
 use Rattle.set_data.specs.Laws.{Stands, found_stands, stands_inside, bytes_at, data_found}
 use Rattle.data_reads.specs.Code.{placed_of}

@@ -1,6 +1,6 @@
 -- A record of n bytes at an address: how its reader runs, where the code has the image from that address onward.
 use Rattle.std.specs.Prelude.{ℕ, zero, suc, ◌-◌, ◌≤◌, ◌≡◌, refl, Bool, true, false, List, [], ◌∷◌, ltb, eqb, length, get_or, take, drop}
-use Rattle.std.proofs.Common.{arith, not-suc-le-zero, le_of_suc-le-suc, ap, sym, ◌∙◌, length-take, get_or-take, length-take-le, take_all, le-ltb, ltb-true, ltb-false, ne_eqb}
+use Rattle.std.proofs.Common.{arith, not-suc-le-zero, le_of_suc-le-suc, ap, sym, ◌∙◌, length-take, get_or-take, length-take-le, take_all, le-ltb, ltb-true, ltb-false, eq-eqb, ne_eqb}
 use Rattle.std.proofs.Math.ListN.{get_or-eq_default}
 use Rattle.base.specs.Choice.{pick}
 use Rattle.base.specs.Laws.{cases}
@@ -62,10 +62,18 @@ module _ {A : Type 0} (x : List ℕ) (base pointer n : ℕ) (refused : ℕ → A
       (λ f. rw (e, pointer_0 x base pointer n from f) (record_onward x base pointer n (refused 2) rec_of f front))
       (λ f. rw (e, pointer_2 x base pointer n from f) (record_ended x base pointer n (refused 2) rec_of f)))
 
-  -- as the code has it: refused by r, or read of the image from the pointer on
-  module _ (front : (s : List ℕ) → rec_of (take n s) ≡ rec_of s) where
-    pub pointer_refused : (r : Refusal) → number_of r ≡ number → refused (number_of r) ≡ run (record_p base pointer n refused rec_of) x
-    pointer_refused r e = sym (by_number front ∙ rw (← e, ne_eqb (number_of r) 0 (number_not_0 r)))
+  -- as the code has it: k is the pointer's number, s the image from there on, r the reply
+  module _ (front : (s : List ℕ) → rec_of (take n s) ≡ rec_of s) (k : ℕ) (e : k ≡ number) (r : A) where
+    pub pointer_refused : (k ≡ 0 → ⊥) → r ≡ refused k → r ≡ run (record_p base pointer n refused rec_of) x
+    pointer_refused h i = i ∙ sym (by_number front ∙ rw (← e, ne_eqb k 0 h))
 
-    pub pointer_read : 0 ≡ number → rec_of (on_from x base pointer) ≡ run (record_p base pointer n refused rec_of) x
-    pointer_read e = sym (by_number front ∙ rw (← e))
+    pub pointer_read : k ≡ 0 → (s : List ℕ) → s ≡ on_from x base pointer → r ≡ rec_of s → r ≡ run (record_p base pointer n refused rec_of) x
+    pointer_read h s f i = i ∙ rw f (sym (by_number front ∙ rw (← e, eq-eqb k 0 h)))
+
+  -- and where the answer is a Result: refused by r, or read of the image from the pointer on
+  module _ (front : (s : List ℕ) → rec_of (take n s) ≡ rec_of s) where
+    pub pointer_refused_by : (r : Refusal) → number_of r ≡ number → refused (number_of r) ≡ run (record_p base pointer n refused rec_of) x
+    pointer_refused_by r e = pointer_refused front (number_of r) e (refused (number_of r)) (number_not_0 r) refl
+
+    pub pointer_read_from : 0 ≡ number → rec_of (on_from x base pointer) ≡ run (record_p base pointer n refused rec_of) x
+    pointer_read_from e = pointer_read front 0 e (rec_of (on_from x base pointer)) refl (on_from x base pointer) refl refl

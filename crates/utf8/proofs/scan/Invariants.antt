@@ -2,7 +2,7 @@
 use Rattle.std.proofs.Common.{◌≡◌, ◌≤◌, drop}
 use Rattle.utf8.specs.Points.{points_of}
 use Rattle.utf8.proofs.Steps.{answer_after}
-use Rattle.utf8.proofs.code_points.Given as goal
+use Rattle.utf8.proofs.scan.Given as goal
 
 abbrev pub invariant-loop-b : goal.invariant-loop-b
 invariant-loop-b l =
